@@ -27,6 +27,7 @@ pub opened : (input rest : List Record) (xs : List Call) (n : ℕ) → n ≡ len
 opened input rest xs n e = rw (run-push initial xs call.start) (record {
   recorded = record { input = refl; rest = refl; left = refl; count = refl; messages = refl };
   marker = ap Some (count_of xs ∙ sym e);
+  numbered = refl;
   forest = refl;
   below = refl;
 })
@@ -89,7 +90,7 @@ preceded-at input rest c true (node x l z) n k t e g h =
     let l-is : l ≡ k = cc in
     let c-is : last_children c.forest ≡ z = ap last_children (sym g) in
     let b-is : but_last c.forest ≡ x = ap but_last (sym g) in
-    record { recorded = record { input = refl; rest = refl; left = refl; count = refl; messages = refl }; marker = ap Some (sym h); forest = cc; below = cc }
+    record { recorded = record { input = refl; rest = refl; left = refl; count = refl; messages = refl }; marker = ap Some (sym h); numbered = refl; forest = cc; below = cc }
 
 pub preceded : (input rest : List Record) (xs : List Call) (cm : CompletedMarker) (k : ℕ) (n : ℕ) → n ≡ length xs → IsLast (view input rest (run initial xs)) cm k →
     Preceded (view input rest (run initial xs)) (view input rest (run initial (xs ++ call.precede ∷ []))) n k

@@ -112,6 +112,7 @@ pub record Recorded (old new : State) : Type 0 where
 pub record Opened (old new : State) (m : ℕ) : Type 0 where
   pub recorded : Recorded old new
   pub marker : new.marker ≡ Some m
+  pub numbered : new.marker ≡ Some old.count
   pub forest : new.forest ≡ none
   pub below : new.below ≡ push old.below old.marker old.forest
 
@@ -139,6 +140,7 @@ pub record Abandoned (old new : State) : Type 0 where
 pub record Preceded (old new : State) (m : ℕ) (kind : ℕ) : Type 0 where
   pub recorded : Recorded old new
   pub marker : new.marker ≡ Some m
+  pub numbered : new.marker ≡ Some old.count
   pub forest : new.forest ≡ node none kind (last_children old.forest)
   pub below : new.below ≡ push old.below old.marker (but_last old.forest)
 
@@ -234,6 +236,11 @@ abbrev pub skip_calls : List Record → List ℕ → List Call
 skip_calls [] bytes = call.start ∷ call.error bytes ∷ call.finish ERROR ∷ []
 skip_calls (r ∷ rs) bytes = call.start ∷ call.error bytes ∷ call.token r.kind 1 ∷ call.finish ERROR ∷ []
 
+-- how many these are
+abbrev pub skip_count : List Record → ℕ
+skip_count [] = 3
+skip_count (r ∷ rs) = 4
+
 -- an `ERROR` over a message and the next token, or over the message alone at the end
 pub record Skipped (old new : State) (bytes : List ℕ) : Type 0 where
   pub input : new.input ≡ old.input
@@ -241,6 +248,7 @@ pub record Skipped (old new : State) (bytes : List ℕ) : Type 0 where
   pub left : new.left ≤ old.left
   pub less : next old ≢ EOF → old.left ≡ new.left + 1
   pub count : new.count + new.left ≡ old.count + old.left + 3
+  pub counted : new.count ≡ old.count + skip_count old.rest
   pub messages : new.messages ≡ old.messages + 1
   pub marker : new.marker ≡ old.marker
   pub forest : new.forest ≡ node old.forest ERROR (skipped old.rest bytes)

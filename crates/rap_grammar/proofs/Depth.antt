@@ -11,7 +11,8 @@ use Rattle.rap_grammar_scripts.specs.Knot.{script_of}
 use Rattle.rap_grammar_scripts.specs.declared.arguments.Restrictions.{Restrictions}
 use Rattle.rap_grammar_scripts.specs.declared.rule.Rule.{Rule}
 use Rattle.rap_grammar_scripts.specs.declared.rule.Rule.TheVariants as knot
-use Rattle.rap_grammar_scripts.specs.Script.{Script, Outcome, something, Spot, spot, Runs}
+use Rattle.rap_grammar_scripts.specs.Script.{Script, Outcome, something, Runs}
+use Rattle.rap_grammar_scripts.specs.Stand.{Stand, stand, spot_at}
 use Rattle.rap_grammar_scripts.specs.ThroughKnot.{expr, unrestricted}
 use Rattle.rap_grammar_scripts.specs.Words.{of_expr, of_option}
 use Rattle.rap_grammar.specs.Part.{Goes, part_of}
@@ -31,15 +32,16 @@ pub more : (n m : ℕ) → n ≤ m → (c : Rule) (s t : State) (e : Option (Com
 more n m l c s t e h = (h.0, answers_more l h.1)
 
 -- a rule's script with less depth
-pub answers_so : (n m : ℕ) (c : Rule) (p q : Spot) (v : Outcome) → Ends n (script_of c) p q v → n < m → Answers m c p q v
+pub answers_so : (n m : ℕ) (c : Rule) (p q : Stand) (v : Outcome) → Ends n (script_of c) p q v → n < m → Answers m c p q v
 answers_so n m c p q v h l = answers c l h
 
 -- a script that ends so runs to there
-pub ends_run : {n : ℕ} {s : Script Rule} {p q : Spot} {v : Outcome} → Ends n s p q v → Runs script_of s p q v
+pub ends_run : {n : ℕ} {s : Script Rule} {p q : Stand} {v : Outcome} → Ends n s p q v → Runs script_of s (spot_at p) (spot_at q) v
 ends_run {n = n} {s = s} {p = p} {q = q} {v = v} d = runs n s p q v d.run
 
-pub expr_runs : {n : ℕ} {p q : Spot} (e : Option (CompletedMarker × BlockLike)) →
-    Answers n (knot.ExprBp unrestricted 1) p q (of_expr e) → Runs script_of expr p q (of_option e)
+pub expr_runs : {n : ℕ} {p q : Stand} (e : Option (CompletedMarker × BlockLike)) →
+    Answers n (knot.ExprBp unrestricted 1) p q (of_expr e) →
+    Runs script_of expr (spot_at p) (spot_at q) (of_option e)
 unfolding expr
 expr_runs None h = ends_run (obeys h gives)
 expr_runs (Some (m, like.Block)) h = ends_run (obeys h gives)
@@ -48,7 +50,7 @@ expr_runs (Some (m, like.NotBlock)) h = ends_run (obeys h gives)
 -- a parser goes along a rule's script, along a rule alone, and along any script that it follows
 pub own_goes : {n : ℕ} {c : Rule} {v : Outcome} {old new : State} → Obeys (suc n) c v old new → Goes (script_of c) old new
 own_goes {n = n} {c = c} {v = v} {old = old} {new = new} d =
-    record { outcome = v; follows = record { run = runs n (script_of c) (spot old) (spot new) v d.run } }
+    record { outcome = v; follows = record { run = runs n (script_of c) (stand old) (stand new) v d.run } }
 
 pub part_goes : {n : ℕ} {c : Rule} {v : Outcome} {old new : State} → Obeys (suc n) c v old new → Goes (part_of c) old new
 unfolding part_of

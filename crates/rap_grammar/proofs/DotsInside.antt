@@ -18,7 +18,7 @@ use Rattle.rap_grammar_core.proofs.DotFits.{at_range, computed, range_implies}
 use Rattle.rap_grammar_core.proofs.DotKeeps.{leaves_inside, kept_inside}
 use Rattle.rap_grammar_core.proofs.DotRules.{dots_sound}
 use Rattle.rap_grammar_core.proofs.Endings.{every}
-use Rattle.rap_grammar_core.proofs.Scripts.{scripts}
+use Rattle.rap_grammar_scripts.proofs.Scripts.{scripts}
 use Rattle.rap_grammar_core.specs.Dots.{dots_inside}
 use Rattle.rap_grammar.specs.Part.{IsPrefixOf}
 

@@ -4,7 +4,7 @@ use Rattle.rap_grammar_scripts.specs.declared.rule.Rule.{Rule}
 use Rattle.rap_grammar_scripts.specs.declared.rule.Rule.TheVariants as knot
 use Rattle.rap_grammar_scripts.specs.declared.arguments.Semicolon.TheVariants as kind
 use Rattle.rap_grammar_core.proofs.Keeps.{EndsAsSaid, Sound}
-use Rattle.rap_grammar_core.proofs.Scripts.{scripts}
+use Rattle.rap_grammar_scripts.proofs.Scripts.{scripts}
 
 -- an expression under these restrictions
 abbrev restricted : Bool → Bool → Rule → Rule

@@ -28,7 +28,7 @@ use Rattle.rap_grammar_scripts.specs.declared.arguments.Restrictions.{Restrictio
 use Rattle.rap_grammar_scripts.specs.declared.arguments.Semicolon.{Semicolon}
 use Rattle.rap_grammar_scripts.specs.declared.arguments.Semicolon.TheVariants as kind
 use Rattle.rap_grammar_core.proofs.Endings.{every, Turned}
-use Rattle.rap_grammar_core.proofs.Scripts.{scripts}
+use Rattle.rap_grammar_scripts.proofs.Scripts.{scripts}
 use Rattle.rap_grammar_core.proofs.DotEnds.{Level, inside, ranged, free, within, Levels, levels, same_lower, as_good, extended, dot_ends}
 use Rattle.rap_grammar_core.proofs.DotFits.{Next, Implies, Never, at_range, both, but, Fits, fits_give, fits_settled, fits_test, fits_token, fits_start, fits_precede, fits_extend, fits_split, fits_after, fits_loop, both_implies, but_implies, range_implies, same_lower_is, computed}
 use Rattle.rap_grammar_core.proofs.DotKeeps.{as_said, Sound}

@@ -20,7 +20,6 @@ pub mod Lists
 pub mod MacroCalls
 pub mod Operators
 pub mod Recovery
-pub mod Scripts
 pub mod StatementWays
 pub mod TypeWays
 pub mod Unique

@@ -9,7 +9,8 @@ use Rattle.rap_grammar_scripts.specs.Recovery.{stops_expr}
 use Rattle.rap_grammar_frame.specs.Room.{asm_room, operand_room, list_room, asm_end_room}
 use Rattle.rap_grammar_scripts.specs.declared.rule.Rule.{Rule}
 use Rattle.rap_grammar_frame.specs.Rules.{Missed}
-use Rattle.rap_grammar_scripts.specs.Script.{Script, Outcome, something, Spot, finish}
+use Rattle.rap_grammar_scripts.specs.Script.{Script, Outcome, something, finish}
+use Rattle.rap_grammar_scripts.specs.Stand.{Stand}
 use Rattle.rap_grammar_scripts.specs.Words.{done}
 use Rattle.rap_grammar_frame.proofs.Growth.{gone}
 use Rattle.rap_grammar_frame.proofs.Steps.{On, by_rule}
@@ -85,7 +86,7 @@ pub piece_took : {s t u : State} {k : ℕ} {b : Bool} → Expected s t k b → G
 piece_took {t = t} e g took some = by_left t.left refl e g took some
 
 -- an operand after the word that says which way it goes
-pub by_dir : {j : ℕ} (b : Bool) (n : Script Rule) {p r q : Spot} {v : Outcome} → On j (reg_operand b) p r something →
+pub by_dir : {j : ℕ} (b : Bool) (n : Script Rule) {p r q : Stand} {v : Outcome} → On j (reg_operand b) p r something →
     On j (finish ASM_REG_OPERAND done) r q v → On j (by_way (of_way (Some b)) n) p q v
 by_dir true n f d = by_rule f d
 by_dir false n f d = by_rule f d

@@ -6,14 +6,15 @@ use Rattle.rap_events.specs.Record.{Record}
 use Rattle.rap_events.specs.State.{State, NthAt, Opened, Reported, Completed}
 use Rattle.rap_grammar_scripts.specs.Exec.{Ends}
 use Rattle.rap_grammar_scripts.specs.Names.{lifetime}
-use Rattle.rap_grammar_scripts.specs.Script.{Spot, spot, something}
+use Rattle.rap_grammar_scripts.specs.Script.{something}
+use Rattle.rap_grammar_scripts.specs.Stand.{Stand, stand}
 use Rattle.rap_grammar_frame.specs.Grew.{Dropped}
 use Rattle.rap_grammar_frame.proofs.Growth.{gone}
 use Rattle.rap_grammar_frame.proofs.Lookahead.{past_lifetime}
 
 -- after the lifetime comes the colon that was seen
-pub colon_left : {s t : State} {q : Spot} {m : ℕ} → Opened s t m →
-    ((depth : ℕ) → Ends depth lifetime (spot t) q something) → NthAt s 1 COLON → is_at COLON q.rest ≡ true
+pub colon_left : {s t : State} {q : Stand} {m : ℕ} → Opened s t m →
+    ((depth : ℕ) → Ends depth lifetime (stand t) q something) → NthAt s 1 COLON → is_at COLON q.rest ≡ true
 colon_left o h e =
     ap (λ (x : List Record). is_at COLON x) (past_lifetime h ∙ ap (λ (x : List Record). drop 1 x) o.recorded.rest) ∙ e
 

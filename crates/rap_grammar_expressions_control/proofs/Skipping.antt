@@ -4,13 +4,10 @@ use Rattle.rap_events.specs.Forest.{Forest}
 use Rattle.rap_events.specs.Record.{Record}
 use Rattle.rap_events.specs.State.{State, Skipped}
 use Rattle.rap_grammar_scripts.specs.Exec.{End, looped}
-use Rattle.rap_grammar_scripts.specs.Script.{Spot, spot, forests, skipped_over}
+use Rattle.rap_grammar_scripts.specs.Stand.{Stand, stand, skipped_over}
+use Rattle.rap_grammar_frame.proofs.Steps.{skips_to}
 
-same_spot : {r s : List Record} {f g : Forest} {b c : List Forest} → r ≡ s → f ≡ g → b ≡ c →
-    (let x : Spot = record { rest = r; forest = f; below = b } in x) ≡ (record { rest = s; forest = g; below = c })
-same_spot e h i = cc
-
-pub loop_skipped : (f : Bool → Bool → Spot → End) (a b : Bool) (s t : State) (bytes : List ℕ) → Skipped s t bytes →
-    looped f a b (skipped_over bytes (spot s)) ≡ looped f a b (spot t)
+pub loop_skipped : (f : Bool → Bool → Stand → End) (a b : Bool) (s t : State) (bytes : List ℕ) → Skipped s t bytes →
+    looped f a b (skipped_over bytes (stand s)) ≡ looped f a b (stand t)
 loop_skipped f a b s t bytes k =
-    ap (λ (x : Spot). looped f a b x) (sym (same_spot k.rest k.forest (ap forests k.below)))
+    ap (λ (x : Stand). looped f a b x) (skips_to k)

@@ -1,4 +1,5 @@
 pub mod Binary
+pub mod Done
 pub mod Ending
 pub mod Growth
 pub mod Left

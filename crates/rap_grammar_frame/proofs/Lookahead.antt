@@ -11,6 +11,7 @@ use Rattle.rap_grammar_scripts.specs.Exec.{Ends}
 use Rattle.rap_grammar_scripts.specs.Names.{lifetime}
 use Rattle.rap_grammar_scripts.specs.Knot.{script_of}
 use Rattle.rap_grammar_scripts.specs.Params.{past, is_isolated_self, is_self_ref}
+use Rattle.rap_grammar_scripts.specs.Stand.{Stand}
 use Rattle.rap_grammar_scripts.specs.Script.{Spot, Outcome, something, Runs, starts, takes, finishes, gives}
 use Rattle.rap_grammar_scripts.specs.Test.{Test, holds}
 
@@ -19,7 +20,7 @@ unfolding lifetime
 lifetime_rest (starts (takes e (finishes gives))) = refl
 
 -- a lifetime is one token
-pub past_lifetime : {p q : Spot} → ((depth : ℕ) → Ends depth lifetime p q something) → q.rest ≡ drop 1 p.rest
+pub past_lifetime : {p q : Stand} → ((depth : ℕ) → Ends depth lifetime p q something) → q.rest ≡ drop 1 p.rest
 past_lifetime {p = p} {q = q} h = lifetime_rest (runs 0 lifetime p q something (h 0).run)
 
 -- how far a token of this kind after so many tokens reaches, if it is there

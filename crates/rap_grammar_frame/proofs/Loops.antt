@@ -4,9 +4,9 @@ use Rattle.rap_events.specs.State.{state}
 use Rattle.rap_events.specs.declared.parser.Parser.{Parser}
 use Rattle.rap_grammar_scripts.proofs.Exec as laws
 use Rattle.rap_grammar_scripts.specs.Exec.{End, on_again, looped}
-use Rattle.rap_grammar_scripts.specs.Script.{Spot}
+use Rattle.rap_grammar_scripts.specs.Stand.{Stand}
 
-pub first_turn : (f : Bool → Bool → Spot → End) (a b : Bool) (p : Spot) →
+pub first_turn : (f : Bool → Bool → Stand → End) (a b : Bool) (p : Stand) →
     looped f a b p ≡
     on_again (f a b p) (λ c d q. if ltb (length q.rest) (length p.rest) then looped f c d q else None)
 first_turn f a b p = laws.first_turn f a b p

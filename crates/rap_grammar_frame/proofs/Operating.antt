@@ -15,7 +15,8 @@ use Rattle.rap_grammar_scripts.specs.Expressions.{lhs}
 use Rattle.rap_grammar_scripts.specs.Postfix.{postfix_expr}
 use Rattle.rap_grammar_scripts.specs.Words.{of_like, is_block, done, if_some, of_bool}
 use Rattle.rap_grammar_scripts.specs.Operator.{operator_at}
-use Rattle.rap_grammar_scripts.specs.Script.{Outcome, nothing, something, block, again, goes_on, Spot, give, extend, abandon, after}
+use Rattle.rap_grammar_scripts.specs.Script.{Outcome, nothing, something, block, again, goes_on, give, extend, abandon, after}
+use Rattle.rap_grammar_scripts.specs.Stand.{Stand}
 use Rattle.rap_grammar_scripts.specs.declared.arguments.BlockLike.{BlockLike}
 use Rattle.rap_grammar_scripts.specs.declared.arguments.BlockLike.TheVariants as like
 use Rattle.rap_grammar_scripts.specs.declared.arguments.Restrictions.{Restrictions}
@@ -28,19 +29,19 @@ not_below : (a b : ℕ) → b ≤ a → nat_lt a b ≡ false
 not_below a b h = grind (arith, nat_tests)
 
 -- a turn that goes on by the operator that comes next, which has power enough
-on_operator : {j : ℕ} (r : Restrictions) (bp : ℕ) {n : ℕ} {p q : Spot} {v : Outcome} →
+on_operator : {j : ℕ} (r : Restrictions) (bp : ℕ) {n : ℕ} {p q : Stand} {v : Outcome} →
     n ≡ power (operator_at p.rest) → 0 < n → bp ≤ n → On j (operation r (operator_at p.rest)) p q v →
     On j (climb_turn r bp false false) p q v
 on_operator r bp e some h d =
     fails (not_below _ _ (rw e at h)) (ends_by_operator (operation r) (rw e at some) d)
 
 -- an operator of too little power
-pub stops_low : {j : ℕ} (r : Restrictions) (bp : ℕ) {n : ℕ} {p : Spot} →
+pub stops_low : {j : ℕ} (r : Restrictions) (bp : ℕ) {n : ℕ} {p : Stand} →
     n ≡ power (operator_at p.rest) → n < bp → On j (climb_turn r bp false false) p p something
 stops_low r bp e h = passes (below _ _ (rw e at h)) gives
 
 -- a cast
-pub goes_as : {j : ℕ} (r : Restrictions) (bp : ℕ) {n : ℕ} {p q : Spot} →
+pub goes_as : {j : ℕ} (r : Restrictions) (bp : ℕ) {n : ℕ} {p q : Stand} →
     n ≡ power (operator_at p.rest) → 0 < n → bp ≤ n → operator_at p.rest ≡ AS_KW → On j cast_expr p q something →
     On j (climb_turn r bp false false) p q (again false false)
 goes_as r bp {p = p} e some h is f =
@@ -48,7 +49,7 @@ goes_as r bp {p = p} e some h is f =
     on_operator r bp e some h (rw cast (by_rule f gives))
 
 -- a range without an end
-pub stops_range : {j : ℕ} (r : Restrictions) (bp : ℕ) {n : ℕ} {p q : Spot} {c : Bool} →
+pub stops_range : {j : ℕ} (r : Restrictions) (bp : ℕ) {n : ℕ} {p q : Stand} {c : Bool} →
     n ≡ power (operator_at p.rest) → 0 < n → bp ≤ n → operator_at p.rest ≢ AS_KW → n ≡ 2 →
     On j (range_expr r (operator_at p.rest)) p q (of_bool c) → c ≡ false →
     On j (climb_turn r bp false false) p q something
@@ -59,7 +60,7 @@ stops_range r bp {p = p} {c = false} e some h is two f i =
     on_operator r bp e some h (rw (cast, dots) (by_rule f gives))
 
 -- a range with an end
-pub goes_range : {j : ℕ} (r : Restrictions) (bp : ℕ) {n : ℕ} {p q : Spot} {c : Bool} →
+pub goes_range : {j : ℕ} (r : Restrictions) (bp : ℕ) {n : ℕ} {p q : Stand} {c : Bool} →
     n ≡ power (operator_at p.rest) → 0 < n → bp ≤ n → operator_at p.rest ≢ AS_KW → n ≡ 2 →
     On j (range_expr r (operator_at p.rest)) p q (of_bool c) → c ≡ true →
     On j (climb_turn r bp false false) p q (again false false)
@@ -70,7 +71,7 @@ goes_range r bp {p = p} {c = true} e some h is two f i =
     on_operator r bp e some h (rw (cast, dots) (by_rule f gives))
 
 -- an operator with its right operand
-pub goes_binary : {j : ℕ} (r : Restrictions) (bp : ℕ) {n : ℕ} {p q : Spot} →
+pub goes_binary : {j : ℕ} (r : Restrictions) (bp : ℕ) {n : ℕ} {p q : Stand} →
     n ≡ power (operator_at p.rest) → 0 < n → bp ≤ n → operator_at p.rest ≢ AS_KW → n ≢ 2 →
     On j (bin_expr r (operator_at p.rest)) p q something →
     On j (climb_turn r bp false false) p q (again false false)
@@ -88,7 +89,7 @@ like_ends like.Block = refl
 like_ends like.NotBlock = refl
 
 -- an operand, and on
-pub from_lhs : {j : ℕ} (x : BlockLike) (r : Restrictions) (bp : ℕ) {o p q : Spot} {v : Outcome} →
+pub from_lhs : {j : ℕ} (x : BlockLike) (r : Restrictions) (bp : ℕ) {o p q : Stand} {v : Outcome} →
     On j (lhs r) o p (of_like x) →
     On j (extend (if r.prefer_stmt && is_block (of_like x) then give block else after (climb r bp) (λ w. done)))
     p q v →
@@ -105,7 +106,7 @@ no_first [] j k ks n = refl
 no_first (r ∷ rs) j k ks n = rw (ne_eqb r.kind j n) refl
 
 -- an operand without an operator before it, and on
-pub from_atom : {j : ℕ} (x : BlockLike) (r : Restrictions) {o p q : Spot} {v : Outcome} →
+pub from_atom : {j : ℕ} (x : BlockLike) (r : Restrictions) {o p q : Stand} {v : Outcome} →
     On j (atom_expr r) o p (of_like x) →
     On j (postfix_expr (not (r.prefer_stmt && is_block (of_like x))) (is_block (of_like x))) p q v →
     On j

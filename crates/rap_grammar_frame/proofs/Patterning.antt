@@ -13,7 +13,8 @@ use Rattle.rap_grammar_scripts.proofs.Ends.{passes, fails}
 use Rattle.rap_grammar_scripts.specs.First.{is_pat_top_first}
 use Rattle.rap_grammar_scripts.specs.Patterns.{at_field, ends_search, is_rest_pat, tuple_element}
 use Rattle.rap_grammar_scripts.specs.Recovery.{stops_pattern, stops_of}
-use Rattle.rap_grammar_scripts.specs.Script.{Outcome, Spot, test}
+use Rattle.rap_grammar_scripts.specs.Script.{Outcome, test}
+use Rattle.rap_grammar_scripts.specs.Stand.{Stand}
 use Rattle.rap_grammar_scripts.specs.Test.{holds}
 use Rattle.rap_grammar_frame.specs.Room.{atom_pattern_room}
 use Rattle.rap_grammar_frame.specs.Rules.{PatternIn, PatternUntil}
@@ -126,7 +127,7 @@ same_flag true = refl
 same_flag false = refl
 
 -- an element of a tuple of patterns, which a `..` makes one too
-pub by_rest_pat : {j : ℕ} {tuple b : Bool} {p q : Spot} {v : Outcome} → b ≡ holds is_rest_pat p.rest →
+pub by_rest_pat : {j : ℕ} {tuple b : Bool} {p q : Stand} {v : Outcome} → b ≡ holds is_rest_pat p.rest →
     On j (tuple_element (tuple || b)) p q v → On j (test is_rest_pat (tuple_element true) (tuple_element tuple)) p q v
 by_rest_pat {tuple = tuple} {b = true} e d = passes (sym e) (rw (no_more tuple) at d)
 by_rest_pat {tuple = tuple} {b = false} e d = fails (sym e) (rw (same_flag tuple) at d)

@@ -12,7 +12,8 @@ use Rattle.rap_events.specs.State.{State, state, next, Opened, Bumped, Expected}
 use Rattle.rap_events.specs.declared.parser.Parser.{Parser}
 use Rattle.rap_grammar_scripts.specs.First.{one_of, is_bracket}
 use Rattle.rap_grammar_scripts.specs.TokenTree.{tokens_turn, tokens_in, tokens_to, token_tree}
-use Rattle.rap_grammar_scripts.specs.Script.{Outcome, something, Spot, spot}
+use Rattle.rap_grammar_scripts.specs.Script.{Outcome, something}
+use Rattle.rap_grammar_scripts.specs.Stand.{Stand, stand}
 use Rattle.rap_grammar_scripts.proofs.Balance.{one_wide}
 use Rattle.rap_grammar_scripts.proofs.Ends.{gives, passes, fails}
 use Rattle.rap_grammar_frame.proofs.Steps.{On, Turns, last_turn}
@@ -58,7 +59,7 @@ closed {k = k} {ket = ket} {s = s} e i h z = record {
 }
 
 -- the script, by the bracket that comes next
-by_opening : {j : ℕ} (a b : Bool) {p q : Spot} {v : Outcome} → (next_kind p.rest == L_PAREN) ≡ a →
+by_opening : {j : ℕ} (a b : Bool) {p q : Stand} {v : Outcome} → (next_kind p.rest == L_PAREN) ≡ a →
     (next_kind p.rest == L_BRACK) ≡ b →
     On j (tokens_in (if a then R_PAREN else (if b then R_BRACK else R_CURLY))) p q v → On j token_tree p q v
 unfolding token_tree
@@ -66,12 +67,12 @@ by_opening true b e i r = passes e r
 by_opening false true e i r = fails e (passes i r)
 by_opening false false e i r = fails e (fails i r)
 
-pub by_bracket : {j ket : ℕ} {p q : Spot} {v : Outcome} → ket ≡ partner (next_kind p.rest) →
+pub by_bracket : {j ket : ℕ} {p q : Stand} {v : Outcome} → ket ≡ partner (next_kind p.rest) →
     On j (tokens_in ket) p q v → On j token_tree p q v
 by_bracket {p = p} e d =
     by_opening (next_kind p.rest == L_PAREN) (next_kind p.rest == L_BRACK) refl refl (rw (← e) d)
 
-at_end : {j : ℕ} (ket : ℕ) (p : Spot) (b : Bool) → is_at EOF p.rest ≡ b → (b ≡ false → is_at ket p.rest ≡ true) →
+at_end : {j : ℕ} (ket : ℕ) (p : Stand) (b : Bool) → is_at EOF p.rest ≡ b → (b ≡ false → is_at ket p.rest ≡ true) →
     On j (tokens_turn ket false false) p p something
 at_end ket p true e f = passes e gives
 at_end ket p false e f = fails e (passes (f refl) gives)
@@ -79,6 +80,6 @@ at_end ket p false e f = fails e (passes (f refl) gives)
 -- the end of the tokens: the closing bracket, or none is left
 pub tokens_end : {j : ℕ} (ket : ℕ) {o p : Parser} → Turns j (tokens_turn ket) false false false false o p →
     (is_at EOF (state p).rest ≡ false → is_at ket (state p).rest ≡ true) →
-    On j (tokens_to ket) (spot (state o)) (spot (state p)) something
+    On j (tokens_to ket) (stand (state o)) (stand (state p)) something
 unfolding tokens_to
-tokens_end ket {p = p} k f = last_turn k (at_end ket (spot (state p)) (is_at EOF (state p).rest) refl f) refl
+tokens_end ket {p = p} k f = last_turn k (at_end ket (stand (state p)) (is_at EOF (state p).rest) refl f) refl

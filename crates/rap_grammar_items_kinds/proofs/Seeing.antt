@@ -11,7 +11,8 @@ use Rattle.rap_grammar_items_kinds.specs.ItemEnds.{Refused, Parted, Modified, Ha
 use Rattle.rap_grammar_scripts.specs.Modifiers.{found, either_of}
 use Rattle.rap_grammar_items_kinds.specs.ItemEnds.{Seen}
 use Rattle.rap_grammar_frame.specs.Room.{list_room, item_room}
-use Rattle.rap_grammar_scripts.specs.Script.{Script, Outcome, something, block, Spot, again, give}
+use Rattle.rap_grammar_scripts.specs.Script.{Script, Outcome, something, block, again, give}
+use Rattle.rap_grammar_scripts.specs.Stand.{Stand}
 use Rattle.rap_grammar_scripts.specs.Words.{of_bool, of_like, is_block}
 use Rattle.rap_grammar_scripts.proofs.Ends.{gives}
 use Rattle.rap_grammar_scripts.specs.declared.rule.Rule.{Rule}
@@ -92,7 +93,7 @@ outcome_of {a = a} {b = b} e =
     ∙ ap (again a) (found_is b)
 
 -- a rule ends with an outcome
-pub gives_as : {j : ℕ} {v w : Outcome} {p : Spot} → v ≡ w → On j (give v) p p w
+pub gives_as : {j : ℕ} {v w : Outcome} {p : Stand} → v ≡ w → On j (give v) p p w
 gives_as {j = j} {v = v} {p = p} e = subst (λ (x : Outcome). On j (give v) p p x) e gives
 
 -- an item after what was read before it
@@ -167,12 +168,12 @@ handed u {v = false} (Ok _) x y z = subst (λ (a : State). Ended a u item_room) 
 handed u (Err m) x y z = (z.1.0 ∙ y z.0, z.1.1)
 
 -- whether a macro call reads like a block
-pub like_block : (e : BlockLike) {j : ℕ} {c : Script Rule} {p q : Spot} {b : Bool} → b ≡ is_block (of_like e) →
+pub like_block : (e : BlockLike) {j : ℕ} {c : Script Rule} {p q : Stand} {b : Bool} → b ≡ is_block (of_like e) →
     b ≡ true → On j c p q (of_like e) → On j c p q block
 like_block like.Block i h f = f
 like_block like.NotBlock i h f = absurd (clash h i)
 
-pub like_other : (e : BlockLike) {j : ℕ} {c : Script Rule} {p q : Spot} {b : Bool} → b ≡ is_block (of_like e) →
+pub like_other : (e : BlockLike) {j : ℕ} {c : Script Rule} {p q : Stand} {b : Bool} → b ≡ is_block (of_like e) →
     b ≡ false → On j c p q (of_like e) → On j c p q something
 like_other like.Block i h f = absurd (clash i h)
 like_other like.NotBlock i h f = f
@@ -304,7 +305,7 @@ pub refused_kept : (u : State) (v : Bool) {s t r : State} {b : Bool} (item : Res
 refused_kept u v {b = b} item x e y = refused u v item x (subst (λ (a : State). Refused v b a u item) e y)
 
 -- a rule that asks for what was found
-pub on_found : {j : ℕ} (f : Bool → Script Rule) (b : Bool) {p q : Spot} {w : Outcome} → On j (f b) p q w →
+pub on_found : {j : ℕ} (f : Bool → Script Rule) (b : Bool) {p q : Stand} {w : Outcome} → On j (f b) p q w →
     On j (f (found (of_bool b))) p q w
 on_found f true d = d
 on_found f false d = d

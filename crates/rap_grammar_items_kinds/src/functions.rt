@@ -54,7 +54,7 @@ fn signature<G: Grammar>(p: &mut Parser<'_>, g: &G) -> Result<(), NoMemory>
 }
 
 /// The parameters of a function, or the message that they are missing.
-#[tactic(auto, unfolding(rap_grammar_scripts::specs::Functions::fn_params))]
+#[tactic(auto, using(rap_grammar_params::proofs::Lines::fn_def_took), unfolding(rap_grammar_scripts::specs::Functions::fn_params))]
 fn fn_params<G: Grammar>(p: &mut Parser<'_>, g: &G) -> Result<(), NoMemory>
     requires within { Within G.valid G.left g.now (state p.old) }
     ensures grew { OnOk result (Grew (state p.old) (state p.new) 1) }

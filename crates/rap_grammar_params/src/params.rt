@@ -1,13 +1,12 @@
 //! Parameters of functions and closures.
-ghost use Rattle.std.specs.Prelude.{ℕ, ◌≡◌, ◌≢◌, ◌<◌, ◌≤◌, ◌+◌, OnOk, IfOk, true, false, Some, drop, if◌then◌else◌};
+ghost use Rattle.std.specs.Prelude.{ℕ, ◌≡◌, ◌<◌, ◌≤◌, ◌+◌, OnOk, IfOk, true, false, Some, drop, if◌then◌else◌};
 ghost use Rattle.rap_events.specs.Composite.{is_at};
 ghost use Rattle.rap_base.specs.TokenKind.{L_PAREN, PIPE, EOF, SELF_KW};
 ghost use Rattle.rap_events.specs.State.{state, next, At};
 ghost use Rattle.rap_grammar_scripts.specs.First.{is_param_first};
-ghost use Rattle.rap_grammar_frame.specs.Grew.{Within, Took, Behind, Grew, Gone, Spent};
+ghost use Rattle.rap_grammar_frame.specs.Grew.{Within, Behind};
 ghost use Rattle.rap_grammar_scripts.specs.Exec.{Does};
 ghost use Rattle.rap_grammar_scripts.specs.Params as script;
-ghost use Rattle.rap_grammar_frame.specs.Room.{list_room, element_room, param_room, bare_param_room, name_room};
 ghost use Rattle.rap_grammar_scripts.specs.Script.{something};
 ghost use Rattle.rap_grammar_scripts.specs.Test.{holds};
 ghost use Rattle.rap_grammar_scripts.specs.Words.{of_bool};
@@ -28,7 +27,6 @@ use rap_grammar_scripts::arguments::Flavor;
 pub fn param_list_fn_def<G: Grammar>(p: &mut Parser<'_>, g: &G) -> Result<(), NoMemory>
     requires within { Within G.valid G.left g.now (state p.old) }
     requires here { next (state p.old) ≡ L_PAREN }
-    ensures took { OnOk result (Took (state p.old) (state p.new) list_room) }
     ensures script { OnOk result (Does (G.left g.now) script.param_list_fn_def something (state p.old) (state p.new)) }
 {
     list_(p, g, Flavor::FnDef)?;
@@ -40,7 +38,6 @@ pub fn param_list_fn_def<G: Grammar>(p: &mut Parser<'_>, g: &G) -> Result<(), No
 pub fn param_list_fn_ptr<G: Grammar>(p: &mut Parser<'_>, g: &G) -> Result<(), NoMemory>
     requires within { Within G.valid G.left g.now (state p.old) }
     requires here { next (state p.old) ≡ L_PAREN }
-    ensures took { OnOk result (Took (state p.old) (state p.new) list_room) }
     ensures script { OnOk result (Does (G.left g.now) script.param_list_fn_ptr something (state p.old) (state p.new)) }
 {
     list_(p, g, Flavor::FnPointer)?;
@@ -52,7 +49,6 @@ pub fn param_list_fn_ptr<G: Grammar>(p: &mut Parser<'_>, g: &G) -> Result<(), No
 pub fn param_list_closure<G: Grammar>(p: &mut Parser<'_>, g: &G) -> Result<(), NoMemory>
     requires within { Within G.valid G.left g.now (state p.old) }
     requires here { next (state p.old) ≡ PIPE }
-    ensures took { OnOk result (Took (state p.old) (state p.new) list_room) }
     ensures script { OnOk result (Does (G.left g.now) script.param_list_closure something (state p.old) (state p.new)) }
 {
     list_(p, g, Flavor::Closure)?;
@@ -60,11 +56,10 @@ pub fn param_list_closure<G: Grammar>(p: &mut Parser<'_>, g: &G) -> Result<(), N
 }
 
 /// The parameters in their brackets.
-#[tactic(auto, using(rap_grammar_frame::proofs::Binary::width_positive), unfolding(rap_grammar_scripts::specs::Params::list_))]
+#[tactic(auto, using(rap_grammar_frame::proofs::Binary::width_positive, crate::proofs::Lines::marker_behind_params), unfolding(rap_grammar_scripts::specs::Params::list_))]
 fn list_<G: Grammar>(p: &mut Parser<'_>, g: &G, flavor: Flavor) -> Result<(), NoMemory>
     requires within { Within G.valid G.left g.now (state p.old) }
     requires here { At (state p.old) (script.bra flavor) }
-    ensures took { OnOk result (Took (state p.old) (state p.new) list_room) }
     ensures script { OnOk result (Does (G.left g.now) (script.list_ flavor) something (state p.old) (state p.new)) }
 {
     let m = p.start()?;
@@ -78,7 +73,6 @@ fn list_<G: Grammar>(p: &mut Parser<'_>, g: &G, flavor: Flavor) -> Result<(), No
 /// What stands in the brackets.
 fn params_of<G: Grammar>(p: &mut Parser<'_>, g: &G, flavor: Flavor) -> Result<(), NoMemory>
     requires behind { Behind G.valid G.left g.now (state p.old) }
-    ensures grew { OnOk result (Grew (state p.old) (state p.new) 16) }
     ensures script { OnOk result (Does (G.left g.now) (script.params_of flavor) something (state p.old) (state p.new)) }
 {
     if flavor == Flavor::FnDef {
@@ -90,10 +84,9 @@ fn params_of<G: Grammar>(p: &mut Parser<'_>, g: &G, flavor: Flavor) -> Result<()
 }
 
 /// The parameters of a function, the first of which may be a `self`.
-#[tactic(auto, unfolding(rap_grammar_scripts::specs::Params::fn_def_params))]
+#[tactic(auto, using(rap_grammar_frame::proofs::Done::less_left), unfolding(rap_grammar_scripts::specs::Params::fn_def_params))]
 fn fn_def_params<G: Grammar>(p: &mut Parser<'_>, g: &G) -> Result<(), NoMemory>
     requires behind { Behind G.valid G.left g.now (state p.old) }
-    ensures grew { OnOk result (Grew (state p.old) (state p.new) 16) }
     ensures script { OnOk result (Does (G.left g.now) script.fn_def_params something (state p.old) (state p.new)) }
 {
     if !first_param(p, g)? {
@@ -104,10 +97,9 @@ fn fn_def_params<G: Grammar>(p: &mut Parser<'_>, g: &G) -> Result<(), NoMemory>
 }
 
 /// The first parameter of a function, as `self` or `a: b`. Returns whether another one may follow.
-#[tactic(auto, unfolding(rap_grammar_scripts::specs::Params::first_param))]
+#[tactic(auto, using(rap_grammar_frame::proofs::Done::less_left, rap_grammar_frame::proofs::Done::marker_kept, crate::proofs::Lines::level_opt_self_param), unfolding(rap_grammar_scripts::specs::Params::first_param))]
 fn first_param<G: Grammar>(p: &mut Parser<'_>, g: &G) -> Result<bool, NoMemory>
     requires behind { Behind G.valid G.left g.now (state p.old) }
-    ensures grew { OnOk result (Grew (state p.old) (state p.new) 8) }
     ensures script { IfOk result
         (λ on. Does (G.left g.now) script.first_param (of_bool on) (state p.old) (state p.new)) }
 {
@@ -129,7 +121,6 @@ fn first_param<G: Grammar>(p: &mut Parser<'_>, g: &G) -> Result<bool, NoMemory>
 /// The comma after a `self`.
 #[tactic(auto, unfolding(rap_grammar_scripts::specs::Params::after_self))]
 fn after_self(p: &mut Parser<'_>) -> Result<(), NoMemory>
-    ensures grew { OnOk result (Grew (state p.old) (state p.new) 1) }
     ensures script { OnOk result ((depth : ℕ) → Does depth script.after_self something (state p.old) (state p.new)) }
 {
     if !p.at(T![')']) {
@@ -139,10 +130,9 @@ fn after_self(p: &mut Parser<'_>) -> Result<(), NoMemory>
 }
 
 /// Parameters with commas between them, up to where the list can't go on.
-#[tactic(auto, using(rap_grammar_frame::proofs::Loops::turns), unfolding(rap_grammar_scripts::specs::Params::params))]
+#[tactic(auto, using(rap_grammar_frame::proofs::Loops::turns, rap_grammar_frame::proofs::Done::less_left, crate::proofs::Lines::on_moves), unfolding(rap_grammar_scripts::specs::Params::params))]
 fn params<G: Grammar>(p: &mut Parser<'_>, g: &G, flavor: Flavor) -> Result<(), NoMemory>
     requires behind { Behind G.valid G.left g.now (state p.old) }
-    ensures grew { OnOk result (Grew (state p.old) (state p.new) 8) }
     ensures script { OnOk result (Does (G.left g.now) (script.params flavor) something (state p.old) (state p.new)) }
 {
     'params: while !p.at(SyntaxKind::EOF) && !p.at(flavor.ket()) {
@@ -157,8 +147,6 @@ fn params<G: Grammar>(p: &mut Parser<'_>, g: &G, flavor: Flavor) -> Result<(), N
 #[tactic(auto, unfolding(rap_grammar_scripts::specs::Params::attributed_param))]
 fn attributed_param<G: Grammar>(p: &mut Parser<'_>, g: &G, flavor: Flavor) -> Result<bool, NoMemory>
     requires behind { Behind G.valid G.left g.now (state p.old) }
-    ensures grew { OnOk result (Grew (state p.old) (state p.new) 4) }
-    ensures took { IfOk result (λ on. on ≡ true → Took (state p.old) (state p.new) element_room) }
     ensures script { IfOk result
         (λ on. Does (G.left g.now) (script.attributed_param flavor) (of_bool on) (state p.old) (state p.new)) }
 {
@@ -169,7 +157,7 @@ fn attributed_param<G: Grammar>(p: &mut Parser<'_>, g: &G, flavor: Flavor) -> Re
 }
 
 /// A parameter from its marker on, and the comma after it. Returns whether another one may follow.
-#[tactic(auto, unfolding(rap_grammar_scripts::specs::Params::marked_param))]
+#[tactic(auto, using(crate::proofs::Lines::marker_behind_param), unfolding(rap_grammar_scripts::specs::Params::marked_param))]
 fn marked_param<G: Grammar>(
     p: &mut Parser<'_>,
     g: &G,
@@ -178,8 +166,6 @@ fn marked_param<G: Grammar>(
 ) -> Result<bool, NoMemory>
     requires behind { Behind G.valid G.left g.now (state p.old) }
     requires newest { (state p.old).marker ≡ Some m.pos.value }
-    ensures gone { OnOk result (Gone (state p.old) (state p.new) 2) }
-    ensures spent { IfOk result (λ on. on ≡ true → Spent (state p.old) (state p.new) param_room) }
     ensures script { IfOk result
         (λ on. Does (G.left g.now) (script.marked_param flavor) (of_bool on) (state p.old) (state p.new)) }
 {
@@ -205,7 +191,6 @@ fn is_param_first(kind: SyntaxKind) -> bool
 /// The comma after a parameter. Returns whether another one may follow. Where one begins, a missing comma is reported.
 #[tactic(auto, unfolding(rap_grammar_scripts::specs::Params::after_param))]
 fn after_param(p: &mut Parser<'_>) -> Result<bool, NoMemory>
-    ensures grew { OnOk result (Grew (state p.old) (state p.new) 1) }
     ensures script { IfOk result
         (λ on. (depth : ℕ) → Does depth script.after_param (of_bool on) (state p.old) (state p.new)) }
 {
@@ -223,7 +208,6 @@ fn after_param(p: &mut Parser<'_>) -> Result<bool, NoMemory>
 fn param<G: Grammar>(p: &mut Parser<'_>, g: &G, flavor: Flavor) -> Result<(), NoMemory>
     requires behind { Behind G.valid G.left g.now (state p.old) }
     requires first { is_param_first (next (state p.old)) ≡ true }
-    ensures took { OnOk result (Took (state p.old) (state p.new) bare_param_room) }
     ensures script { OnOk result (Does (G.left g.now) (script.param flavor) something (state p.old) (state p.new)) }
 {
     match flavor {
@@ -247,7 +231,6 @@ fn param<G: Grammar>(p: &mut Parser<'_>, g: &G, flavor: Flavor) -> Result<(), No
 fn fn_def_param<G: Grammar>(p: &mut Parser<'_>, g: &G) -> Result<(), NoMemory>
     requires behind { Behind G.valid G.left g.now (state p.old) }
     requires first { is_param_first (next (state p.old)) ≡ true }
-    ensures took { OnOk result (Took (state p.old) (state p.new) bare_param_room) }
     ensures script { OnOk result (Does (G.left g.now) script.fn_def_param something (state p.old) (state p.new)) }
 {
     if p.eat(T![...])? {
@@ -263,7 +246,6 @@ fn fn_def_param<G: Grammar>(p: &mut Parser<'_>, g: &G) -> Result<(), NoMemory>
 fn fn_ptr_param<G: Grammar>(p: &mut Parser<'_>, g: &G) -> Result<(), NoMemory>
     requires behind { Behind G.valid G.left g.now (state p.old) }
     requires first { is_param_first (next (state p.old)) ≡ true }
-    ensures took { OnOk result (Took (state p.old) (state p.new) bare_param_room) }
     ensures script { OnOk result (Does (G.left g.now) script.fn_ptr_param something (state p.old) (state p.new)) }
 {
     if p.eat(T![...])? {
@@ -290,7 +272,6 @@ fn is_named_param(p: &Parser<'_>) -> bool
 fn closure_param<G: Grammar>(p: &mut Parser<'_>, g: &G) -> Result<(), NoMemory>
     requires behind { Behind G.valid G.left g.now (state p.old) }
     requires first { is_param_first (next (state p.old)) ≡ true }
-    ensures took { OnOk result (Took (state p.old) (state p.new) bare_param_room) }
     ensures script { OnOk result (Does (G.left g.now) script.closure_param something (state p.old) (state p.new)) }
 {
     pattern_single(p, g)?;
@@ -304,7 +285,6 @@ fn closure_param<G: Grammar>(p: &mut Parser<'_>, g: &G) -> Result<(), NoMemory>
 #[tactic(auto, unfolding(rap_grammar_scripts::specs::Params::param_type))]
 fn param_type<G: Grammar>(p: &mut Parser<'_>, g: &G) -> Result<(), NoMemory>
     requires behind { Behind G.valid G.left g.now (state p.old) }
-    ensures grew { OnOk result (Grew (state p.old) (state p.new) 1) }
     ensures script { OnOk result (Does (G.left g.now) script.param_type something (state p.old) (state p.new)) }
 {
     if variadic_param(p)? {
@@ -321,7 +301,6 @@ fn param_type<G: Grammar>(p: &mut Parser<'_>, g: &G) -> Result<(), NoMemory>
 /// `: ...`, if it comes next. Returns whether it did.
 #[tactic(auto, unfolding(rap_grammar_scripts::specs::Params::variadic_param))]
 fn variadic_param(p: &mut Parser<'_>) -> Result<bool, NoMemory>
-    ensures grew { OnOk result (Grew (state p.old) (state p.new) 0) }
     ensures script { IfOk result
         (λ found. (depth : ℕ) → Does depth script.variadic_param (of_bool found) (state p.old) (state p.new)) }
 {
@@ -337,8 +316,6 @@ fn variadic_param(p: &mut Parser<'_>) -> Result<bool, NoMemory>
 #[tactic(auto, unfolding(rap_grammar_scripts::specs::Params::opt_self_param))]
 fn opt_self_param<G: Grammar>(p: &mut Parser<'_>, g: &G) -> Result<bool, NoMemory>
     requires behind { Behind G.valid G.left g.now (state p.old) }
-    ensures grew { OnOk result (Grew (state p.old) (state p.new) 0) }
-    ensures took { IfOk result (λ found. found ≡ true → Took (state p.old) (state p.new) param_room) }
     ensures script { IfOk result
         (λ found. Does (G.left g.now) script.opt_self_param (of_bool found) (state p.old) (state p.new)) }
 {
@@ -389,7 +366,6 @@ fn past(p: &Parser<'_>, kind: SyntaxKind, n: usize) -> usize
 fn self_value<G: Grammar>(p: &mut Parser<'_>, g: &G) -> Result<(), NoMemory>
     requires within { Within G.valid G.left g.now (state p.old) }
     requires here { holds script.is_self_value (state p.old).rest ≡ true }
-    ensures took { OnOk result (Took (state p.old) (state p.new) param_room) }
     ensures script { OnOk result (Does (G.left g.now) script.self_value something (state p.old) (state p.new)) }
 {
     p.eat(T![mut])?;
@@ -404,7 +380,6 @@ fn self_value<G: Grammar>(p: &mut Parser<'_>, g: &G) -> Result<(), NoMemory>
 #[tactic(auto, unfolding(rap_grammar_scripts::specs::Params::self_ref, rap_grammar_scripts::specs::Params::self_mut))]
 fn self_ref(p: &mut Parser<'_>) -> Result<(), NoMemory>
     requires here { holds script.is_self_ref (state p.old).rest ≡ true }
-    ensures took { OnOk result (Took (state p.old) (state p.new) param_room) }
     ensures script { OnOk result ((depth : ℕ) → Does depth script.self_ref something (state p.old) (state p.new)) }
 {
     p.bump(T![&])?;
@@ -423,7 +398,6 @@ fn self_ref(p: &mut Parser<'_>) -> Result<(), NoMemory>
 #[tactic(auto, unfolding(rap_grammar_scripts::specs::Params::self_as_name))]
 fn self_as_name(p: &mut Parser<'_>) -> Result<(), NoMemory>
     requires { next (state p.old) ≡ SELF_KW }
-    ensures took { OnOk result (Took (state p.old) (state p.new) name_room) }
     ensures script { OnOk result ((depth : ℕ) → Does depth script.self_as_name something (state p.old) (state p.new)) }
 {
     let m = p.start()?;

@@ -1,6 +1,14 @@
 pub mod Balance
 pub mod ByOperator
+pub mod Cost
+pub mod Effects
 pub mod Ends
 pub mod Exec
+pub mod Firsts
 pub mod Forests
+pub mod Kept
+pub mod Moves
 pub mod OneEnd
+pub mod Rests
+pub mod Scripts
+pub mod Tally

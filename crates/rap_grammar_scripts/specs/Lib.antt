@@ -9,11 +9,14 @@ pub mod Closures
 pub mod ConstArgs
 pub mod Consts
 pub mod Control
+pub mod Cost
 pub mod EffectBlocks
+pub mod Effects
 pub mod Entry
 pub mod Exec
 pub mod Expressions
 pub mod First
+pub mod Firsts
 pub mod Functions
 pub mod GenericArgList
 pub mod GenericArgs
@@ -21,6 +24,7 @@ pub mod GenericParams
 pub mod ItemNames
 pub mod Items
 pub mod Jumps
+pub mod Kept
 pub mod Knot
 pub mod Lists
 pub mod Literals
@@ -28,6 +32,7 @@ pub mod Macros
 pub mod Matches
 pub mod Modifiers
 pub mod Modules
+pub mod Moves
 pub mod Names
 pub mod Operator
 pub mod Operators
@@ -40,7 +45,9 @@ pub mod Ranges
 pub mod Records
 pub mod Recovery
 pub mod Script
+pub mod Stand
 pub mod Statements
+pub mod Tally
 pub mod Test
 pub mod ThroughKnot
 pub mod TokenTree

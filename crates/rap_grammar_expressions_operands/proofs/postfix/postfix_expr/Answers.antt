@@ -1,6 +1,7 @@
 use Rattle.std.proofs.Common.{ℕ, rules, if◌then◌else◌}
 use Rattle.rap_grammar_scripts.specs.Postfix.{postfix_expr}
-use Rattle.rap_grammar_scripts.specs.Script.{Script, Spot, block, something}
+use Rattle.rap_grammar_scripts.specs.Script.{Script, block, something}
+use Rattle.rap_grammar_scripts.specs.Stand.{Stand}
 use Rattle.rap_grammar_scripts.specs.Words.{is_block, of_like}
 use Rattle.rap_grammar_scripts.specs.declared.rule.Rule.{Rule}
 use Rattle.rap_grammar_scripts.specs.declared.arguments.BlockLike.{BlockLike}
@@ -22,7 +23,7 @@ postfixes-preserved g c =
           (rw c.if-not-goes_on.false at (c.in_ok-expr.ensures.script (is_block (of_like b)))) (search rules);
     }
 
-ends_like : {j : ℕ} {c : Script Rule} {p q : Spot} (x : BlockLike) →
+ends_like : {j : ℕ} {c : Script Rule} {p q : Stand} (x : BlockLike) →
     On j c p q (if is_block (of_like x) then block else something) → On j c p q (of_like x)
 ends_like like.Block h = h
 ends_like like.NotBlock h = h

@@ -1,5 +1,5 @@
 -- The names of all scripts, by their modules.
--- Written by crates/rap_grammar_core/all_scripts from the scripts: an edit here is lost.
+-- Written by crates/rap_grammar_scripts/all_scripts from the scripts: an edit here is lost.
 use Rattle.rap_grammar_scripts.specs.Adt as adt
 use Rattle.rap_grammar_scripts.specs.Asm as asm
 use Rattle.rap_grammar_scripts.specs.Atom as atom
