@@ -16,11 +16,13 @@ use rap_grammar_attributes::attributes::{cfg_predicate, meta};
 use rap_grammar_expressions::expressions::expr_bp;
 use rap_grammar_expressions_control::control::if_expr;
 use rap_grammar_frame::token_tree::token_tree;
+use rap_grammar_generics::generic_params::{
+    bounds_without_colon, generic_param_list, where_clause,
+};
 use rap_grammar_items::items::item_or_macro;
 use rap_grammar_items_kinds::use_item::use_tree;
 use rap_grammar_patterns::patterns::{pattern_elsewhere, pattern_r, pattern_single_elsewhere};
 use rap_grammar_types::generic_args::generic_arg;
-use rap_grammar_types::generic_params::{bounds_without_colon, generic_param_list, where_clause};
 use rap_grammar_types::types::{path_type_bounds, type_with_bounds_cond};
 // end
 

@@ -11,8 +11,6 @@ ghost use Rattle.rap_grammar_frame.specs.Room.{element_room};
 ghost use Rattle.rap_grammar_scripts.specs.Script.{something};
 ghost use Rattle.rap_grammar_scripts.specs.Test.{holds};
 
-use crate::const_args::const_arg;
-use crate::generic_params::bounds;
 use crate::types::{opt_type_bounds_as_dyn_trait_type, starts_weak_dyn, type_with_bounds_cond};
 use rap_base::T;
 use rap_base::no_memory::NoMemory;
@@ -23,6 +21,8 @@ use rap_grammar_frame::knot::Grammar;
 use rap_grammar_frame::names::{is_path_name, lifetime, name_ref_mod_path};
 use rap_grammar_frame::through_knot::type_;
 use rap_grammar_frame::token_tree::{macro_call_after_excl, starts_macro_call};
+use rap_grammar_generics::const_args::const_arg;
+use rap_grammar_generics::generic_params::bounds;
 use rap_grammar_paths::paths::{opt_path_type_args, type_path_for_qualifier};
 
 /// An argument, as `'a`, `1`, `a`, `a = b` and `a: b`.

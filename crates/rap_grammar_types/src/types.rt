@@ -14,8 +14,6 @@ ghost use Rattle.rap_grammar_scripts.specs.Types as script;
 ghost use Rattle.rap_grammar_scripts.specs.Types.{starts_bare_dyn, starts_for_target};
 ghost use Rattle.rap_grammar_scripts.specs.Words.{of_bool};
 
-use crate::generic_params::{bounds_without_colon, bounds_without_colon_m};
-use crate::path_type::path_type;
 use rap_base::T;
 use rap_base::no_memory::NoMemory;
 use rap_base::syntax_kind::SyntaxKind;
@@ -28,6 +26,8 @@ use rap_grammar_frame::through_knot::{
     expr, for_binder, opt_ret_type, pattern, type_, type_no_bounds,
 };
 use rap_grammar_frame::token_tree::{macro_call_after_excl, starts_macro_call};
+use rap_grammar_generics::generic_params::{bounds_without_colon, bounds_without_colon_m};
+use rap_grammar_generics::path_type::path_type;
 use rap_grammar_params::params::param_list_fn_ptr;
 use rap_grammar_paths::paths::type_path;
 

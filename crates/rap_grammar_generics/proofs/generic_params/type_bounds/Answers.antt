@@ -3,7 +3,7 @@ use Rattle.rap_base.specs.TokenKind.{LIFETIME_IDENT}
 use Rattle.rap_events.specs.State.{state, next}
 use Rattle.rap_grammar_scripts.proofs.Ends.{gives}
 use Rattle.rap_grammar_frame.proofs.Steps.{by_rule, ate, turn, answers_yes}
-use Rattle.rap_grammar_types.proofs.generic_params.type_bounds.Goals as goal
+use Rattle.rap_grammar_generics.proofs.generic_params.type_bounds.Goals as goal
 
 pub bounds-preserved : goal.bounds-preserved
 bounds-preserved g c = record {

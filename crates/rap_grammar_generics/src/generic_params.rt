@@ -236,7 +236,7 @@ fn lifetime_bound<G: Grammar>(p: &mut Parser<'_>, g: &G) -> Result<bool, NoMemor
 
 /// Bounds with their colon, as `: 'a + A`.
 #[tactic(auto, unfolding(rap_grammar_scripts::specs::GenericParams::bounds))]
-pub(crate) fn bounds<G: Grammar>(p: &mut Parser<'_>, g: &G) -> Result<(), NoMemory>
+pub fn bounds<G: Grammar>(p: &mut Parser<'_>, g: &G) -> Result<(), NoMemory>
     requires within { Within G.valid G.left g.now (state p.old) }
     requires here { next (state p.old) ≡ COLON }
     ensures took { OnOk result (Took (state p.old) (state p.new) list_room) }
@@ -263,7 +263,7 @@ pub fn bounds_without_colon<G: Grammar>(p: &mut Parser<'_>, g: &G) -> Result<(),
 
 /// Bounds, from their marker on.
 #[tactic(auto, unfolding(rap_grammar_scripts::specs::GenericParams::bounds_without_colon_m))]
-pub(crate) fn bounds_without_colon_m<G: Grammar>(
+pub fn bounds_without_colon_m<G: Grammar>(
     p: &mut Parser<'_>,
     g: &G,
     m: Marker,

@@ -24,7 +24,7 @@ use rap_grammar_paths::paths::expr_path;
 
 /// A constant as an argument, as `1`, `-1`, `{ a }` and `a::b`.
 #[tactic(auto, unfolding(rap_grammar_scripts::specs::ConstArgs::const_arg))]
-pub(crate) fn const_arg<G: Grammar>(p: &mut Parser<'_>, g: &G) -> Result<(), NoMemory>
+pub fn const_arg<G: Grammar>(p: &mut Parser<'_>, g: &G) -> Result<(), NoMemory>
     requires within { Within G.valid G.left g.now (state p.old) }
     ensures grew { OnOk result (Grew (state p.old) (state p.new) 8) }
     ensures took { OnOk result (is_const_arg_first (next (state p.old)) ≡ true → Took (state p.old) (state p.new) element_room) }

@@ -19,7 +19,7 @@ use rap_grammar_paths::paths::type_path;
 
 /// A path as a type, as `a::b`.
 #[tactic(auto, unfolding(rap_grammar_scripts::specs::PathType::path_type))]
-pub(crate) fn path_type<G: Grammar>(p: &mut Parser<'_>, g: &G) -> Result<CompletedMarker, NoMemory>
+pub fn path_type<G: Grammar>(p: &mut Parser<'_>, g: &G) -> Result<CompletedMarker, NoMemory>
     requires within { Within G.valid G.left g.now (state p.old) }
     requires path { holds is_path_start (state p.old).rest ≡ true }
     ensures made { IfOk result (Makes PATH_TYPE list_room (state p.old) (state p.new)) }

@@ -2,7 +2,7 @@ use Rattle.std.proofs.Common.{rules}
 use Rattle.rap_grammar_scripts.specs.GenericParams.{bound_macro_call}
 use Rattle.rap_grammar_scripts.proofs.Ends.{gives, passes}
 use Rattle.rap_grammar_frame.proofs.Steps.{by_start, by_bump, by_report, by_rule, by_complete}
-use Rattle.rap_grammar_types.proofs.generic_params.bound_macro_call.Goals as goal
+use Rattle.rap_grammar_generics.proofs.generic_params.bound_macro_call.Goals as goal
 
 pub returns-then-matches-clause-script : goal.returns-then-matches-clause-script
 unfolding bound_macro_call

@@ -3,7 +3,7 @@ use Rattle.rap_events.specs.State.{state}
 use Rattle.rap_grammar_scripts.specs.GenericParams.{where_turn}
 use Rattle.rap_grammar_frame.specs.Grew.{Grew}
 use Rattle.rap_grammar_frame.proofs.Steps.{Turns}
-use Rattle.rap_grammar_types.proofs.generic_params.where_predicates.Given as goal
+use Rattle.rap_grammar_generics.proofs.generic_params.where_predicates.Given as goal
 
 abbrev pub invariant-predicates : goal.invariant-predicates
 invariant-predicates g l = record {

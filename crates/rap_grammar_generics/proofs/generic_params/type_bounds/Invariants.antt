@@ -5,7 +5,7 @@ use Rattle.rap_grammar_scripts.specs.GenericParams.{bound_turn}
 use Rattle.rap_grammar_frame.specs.Grew.{Grew, Took}
 use Rattle.rap_grammar_frame.specs.Room.{name_end_room}
 use Rattle.rap_grammar_frame.proofs.Steps.{Turns}
-use Rattle.rap_grammar_types.proofs.generic_params.type_bounds.Given as goal
+use Rattle.rap_grammar_generics.proofs.generic_params.type_bounds.Given as goal
 
 abbrev pub invariant-bounds : goal.invariant-bounds
 invariant-bounds g l = record {

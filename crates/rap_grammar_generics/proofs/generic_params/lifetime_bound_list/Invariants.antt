@@ -3,7 +3,7 @@ use Rattle.rap_events.specs.State.{state}
 use Rattle.rap_grammar_scripts.specs.GenericParams.{lifetime_bound_turn}
 use Rattle.rap_grammar_frame.specs.Grew.{Grew}
 use Rattle.rap_grammar_frame.proofs.Steps.{Turns}
-use Rattle.rap_grammar_types.proofs.generic_params.lifetime_bound_list.Given as goal
+use Rattle.rap_grammar_generics.proofs.generic_params.lifetime_bound_list.Given as goal
 
 abbrev pub invariant-bounds : goal.invariant-bounds
 invariant-bounds g l = record {
