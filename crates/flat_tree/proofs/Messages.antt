@@ -1,9 +1,9 @@
 -- Messages with their places.
-use Rattle.std.proofs.Common.{◌≡◌, ℕ, List, [], ◌∷◌, ◌++◌, Some, ap, subst, sym, ◌∙◌, append_assoc, append-nil, map}
+use Rattle.std.proofs.Common.{◌≡◌, ℕ, List, [], ◌∷◌, ◌++◌, Some, ap, sym, ◌∙◌, append_assoc, append-nil, map}
 use Rattle.std.specs.List.{slice_get}
 use Rattle.rap_lexed.specs.StrForest.{StrForest}
 use Rattle.rap_ranged.specs.Elements.{leaf_element}
-use Rattle.rap_ranged.specs.Leaves.{RangedLeaf}
+use Rattle.rap_ranged.specs.Leaves.{RangedLeaf, leaf_of_byte}
 use Rattle.rap_ranged.specs.RangedForest.{RangedNode}
 use Rattle.rap_ranged.specs.RangedMessages.{RangedMessage, ranged_at, ranged_message}
 use Rattle.rap_ranged.specs.Reports.{ReportValue}
@@ -16,19 +16,16 @@ abbrev pub message : List ℕ → ℕ → ℕ → ℕ → RangedMessage
 message text at start end = record { text = text; at = at; start = start; end = end }
 
 -- a message at the leaf that was found
-pub placed_at : (root : RangedNode) (es : List Element) (at index start end : ℕ) (text : List ℕ) (r : ReportValue) (m : RangedMessage) → es ≡ elements_of_tree root → IsLeafAt root at (Some index)
+pub placed_at : (root : RangedNode) (es : List Element) (at index start end : ℕ) (r : ReportValue) (m : RangedMessage) → es ≡ elements_of_tree root → at ≡ r.at → IsLeafAt root at (Some index)
     → ((e : Element) → slice_get es index ≡ Some e → start ≡ e.start) → ((e : Element) → slice_get es index ≡ Some e → end ≡ e.end)
-    → m ≡ message text at start end → let v : ReportValue = record { text = text; at = at } in v ≡ r → m ≡ ranged_message root.children r
-placed_at root es at index start end text r m is h starts ends same view =
+    → m ≡ message r.text r.at start end → m ≡ ranged_message root.children r
+placed_at root es at index start end r m is there_at h starts ends same =
     let l : RangedLeaf = h.0 in
     let t = there root es index (leaf_element l) is h.2 in
-    let v : ReportValue = record { text = text; at = at } in
-    let P : ReportValue → Type 0 = λ x. m ≡ ranged_message root.children x in
-    subst P view
-    (same
-    ∙ (ap (λ n. message text at n end) (starts t.0 t.1 ∙ t.2)
-    ∙ (ap (λ n. message text at l.start n) (ends t.0 t.1 ∙ t.3)
-    ∙ ap (ranged_at v) (sym h.1))))
+    same
+    ∙ (ap (λ n. message r.text r.at n end) (starts t.0 t.1 ∙ t.2)
+    ∙ (ap (λ n. message r.text r.at l.start n) (ends t.0 t.1 ∙ t.3)
+    ∙ ap (ranged_at r) (sym h.1 ∙ ap (λ n. leaf_of_byte n root.children) there_at)))
 
 -- one message more
 pub placed_more : (f : ReportValue → RangedMessage) (ms ns all : List RangedMessage) (x : ReportValue) (y : RangedMessage) (xs ys : List ReportValue)

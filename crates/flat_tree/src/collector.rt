@@ -4,9 +4,9 @@ ghost use Rattle.flat_tree.specs.Building.{building};
 
 use crate::builder::Builder;
 use crate::element::NO_PARENT;
-use crate::report::Report;
 use rap_base::no_memory::NoMemory;
 use rap_lexed::shortcuts::{StrSink, StrStep};
+use rap_ranged::report::Report;
 use std::alloc::Global;
 
 /// The list of a tree and its messages after some of its steps.

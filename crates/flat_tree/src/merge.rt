@@ -3,8 +3,8 @@ ghost use Rattle.std.specs.Prelude.{◌≡◌, ◌++◌, IfOk, OnOk, drop, rever
 ghost use Rattle.std.specs.List.{prefix_len, take_while};
 ghost use Rattle.rap_ranged.specs.MergedMessages.{is_before, merged};
 
-use crate::message::Message;
 use rap_base::no_memory::NoMemory;
+use rap_ranged::message::Message;
 use std::alloc::Global;
 
 /// The messages of both lists in the order of their positions: of two at one position that of the first list comes

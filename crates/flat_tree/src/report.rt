@@ -1,5 +1,5 @@
 //! Messages whose place is not known yet.
-ghost use Rattle.std.specs.Prelude.{◌≡◌, IfOk, Some, map, string_bytes};
+ghost use Rattle.std.specs.Prelude.{◌≡◌, IfOk, Some, map};
 ghost use Rattle.std.specs.List.{slice_get};
 ghost use Rattle.flat_tree.specs.declared.element.Element.{Element};
 ghost use Rattle.rap_lexed.specs.StrForest.{StrForest};
@@ -13,48 +13,24 @@ ghost use Rattle.flat_tree.specs.FlatTree.{elements_of_tree};
 use crate::element::Element;
 use crate::leaf_at::{begun_near, element_of, leaf_before};
 use crate::merge::merge;
-use crate::message::Message;
 use rap_base::no_memory::NoMemory;
+use rap_ranged::message::Message;
+use rap_ranged::report::Report;
 use std::alloc::Global;
-use std::marker::Model;
 use std::ops::Range;
 
-/// A message: its text, and its position in bytes.
-#[derive(Drop)]
-pub(crate) struct Report {
-    text: String,
-    at: usize,
-}
-
-impl Model for Report {
-    ghost use Rattle.std.specs.Prelude.{string_bytes};
-    ghost use Rattle.rap_ranged.specs.Reports.{ReportValue};
-
-    ghost Value = { ReportValue };
-
-    ghost view = { λ r. record { text = string_bytes r.text; at = r.at } };
-}
-
-impl Report {
-    /// A message of this text at this byte.
-    pub(crate) fn new(text: String, at: usize) -> Report
-        ensures { result ≡ record { text = string_bytes text; at = at } }
-    {
-        Report { text, at }
-    }
-
-    /// The message with the range of the leaf at its position. So many elements begin there or before.
-    fn placed(self, elements: &[Element], begun: usize) -> Message
-        requires { EndsBegun elements.now self.at begun }
-        ensures { (f : StrForest) (root : RangedNode) → Ranged f root → elements.now ≡ elements_of_tree root → result ≡ ranged_message root.children self }
-    {
-        match leaf_before(elements, self.at, begun) {
-            Some(index) => {
-                let range = place_of(elements, index, self.at);
-                Message::new(self.text, self.at, range)
-            }
-            None => Message::new(self.text, self.at, self.at..self.at),
+/// The message with the range of the leaf at its position. So many elements begin there or before.
+fn placed(report: Report, elements: &[Element], begun: usize) -> Message
+    requires { EndsBegun elements.now report.at begun }
+    ensures { (f : StrForest) (root : RangedNode) → Ranged f root → elements.now ≡ elements_of_tree root → result ≡ ranged_message root.children report }
+{
+    let at = report.position();
+    match leaf_before(elements, at, begun) {
+        Some(index) => {
+            let range = place_of(elements, index, at);
+            report.placed(range)
         }
+        None => report.placed(at..at),
     }
 }
 
@@ -96,8 +72,8 @@ fn all_placed(
     let mut messages = Vec::with_capacity(alloc, reports.len())?;
     let mut begun = 0;
     'reports: for report in reports {
-        begun = begun_near(elements, report.at, begun);
-        messages.push(report.placed(elements, begun))?;
+        begun = begun_near(elements, report.position(), begun);
+        messages.push(placed(report, elements, begun))?;
     }
     Ok(messages)
 }

@@ -16,13 +16,13 @@ ghost use Rattle.flat_tree.specs.Order.{ParentsComeFirst, PassesForward, PassesW
 use crate::builder::Builder;
 use crate::collector::Collector;
 use crate::element::Element;
-use crate::message::Message;
 use crate::report::all_messages;
 use crate::room::Room;
 use ra_ap_parser::{Edition, MAX_TEXT, ParsedTokens, TextFault, TopEntryPoint, parse_tokens};
 use rap_base::no_memory::NoMemory;
 use rap_events::output::Output;
 use rap_lexed::lexed_str::LexedStr;
+use rap_ranged::message::Message;
 use std::alloc::Global;
 
 /// A tree over a text: the list of its nodes and leaves in preorder. It borrows the text.

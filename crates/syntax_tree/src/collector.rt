@@ -4,9 +4,9 @@ ghost use Rattle.syntax_tree.specs.Building.{building, outermost};
 ghost use Rattle.syntax_tree.specs.RangedForest.{ranged_none};
 
 use crate::builder::Builder;
-use crate::report::Report;
 use rap_base::no_memory::NoMemory;
 use rap_lexed::shortcuts::{StrSink, StrStep};
+use rap_ranged::report::Report;
 use std::alloc::Global;
 
 /// A tree and its messages after some of its steps.

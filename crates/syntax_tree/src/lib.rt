@@ -11,7 +11,6 @@ mod element;
 pub mod laws;
 mod leaf;
 mod leaf_at;
-mod message;
 mod next;
 mod node;
 mod plain_text;
@@ -23,7 +22,7 @@ mod walk;
 
 pub use element::Element;
 pub use leaf::Leaf;
-pub use message::Message;
 pub use node::{Child, Node};
+pub use rap_ranged::message::Message;
 pub use traversal::{Descendants, Leaves};
 pub use tree::Tree;

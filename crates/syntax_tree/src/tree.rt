@@ -15,13 +15,13 @@ ghost use Rattle.syntax_tree.specs.TextTree.{IsTextTree};
 
 use crate::builder::Builder;
 use crate::collector::Collector;
-use crate::message::Message;
 use crate::node::{Child, Node};
 use crate::report::all_placed;
 use ra_ap_parser::{Edition, MAX_TEXT, TextFault, TopEntryPoint, parse_text};
 use rap_base::no_memory::NoMemory;
 use rap_events::output::Output;
 use rap_lexed::lexed_str::LexedStr;
+use rap_ranged::message::Message;
 use std::alloc::Global;
 
 /// A tree over a text: it owns its nodes, and borrows the text.

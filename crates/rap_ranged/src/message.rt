@@ -15,7 +15,7 @@ pub struct Message {
 
 impl Model for Message {
     ghost use Rattle.std.specs.Prelude.{string_bytes};
-    ghost use Rattle.syntax_tree.specs.RangedMessages.{RangedMessage};
+    ghost use Rattle.rap_ranged.specs.RangedMessages.{RangedMessage};
 
     ghost Value = { RangedMessage };
 
@@ -24,7 +24,7 @@ impl Model for Message {
 
 impl Message {
     /// A message of this text at this byte, with this place.
-    pub(crate) fn new(text: String, at: usize, range: Range<usize>) -> Message
+    pub fn new(text: String, at: usize, range: Range<usize>) -> Message
         ensures { result ≡ record { text = string_bytes text; at = at; start = range.start; end = range.end } }
     {
         Message {
