@@ -72,8 +72,13 @@ class Table:
         self.names = {}
         self.parts = dict(self.named_parts())
         found = self.evaluator.library.modules['Categories'].definitions
-        for name in sorted((it for it in found if it[0].isupper()), key=lambda it: len(found[it].parameters)):
+        # A power alone is given to numbers of which others have names of their own, so it comes last.
+        for name in sorted((it for it in found if it[0].isupper()), key=lambda it: list(found[it].parameters) == ['ℕ']):
             self.number(name, found[name].parameters, ())
+
+    def row(self, module, name):
+        """A row that is defined outside of the table."""
+        return row(self.evaluator.of(module, name))
 
     def number(self, name, parameters, given):
         """Notes the numbers of a category, for all that it is given."""

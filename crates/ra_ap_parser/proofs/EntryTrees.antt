@@ -3,7 +3,7 @@ use Rattle.std.proofs.Common.{◌≡◌, inl, inr, ℕ, List, [], ◌++◌, appe
 use Rattle.rap_base.specs.NodeKind.{RECORD_FIELD_LIST, RECORD_EXPR_FIELD_LIST, VARIANT_LIST, MATCH_ARM_LIST, USE_TREE_LIST, EXTERN_ITEM_LIST, TOKEN_TREE, ASSOC_ITEM_LIST, ITEM_LIST}
 use Rattle.rap_base.specs.TokenKind.{L_CURLY}
 use Rattle.rap_events.specs.Record.{Record, next_kind}
-use Rattle.rap_events.specs.Forest.{Forest, message_count, one_tree}
+use Rattle.rap_events.specs.Forest.{Forest, none, node, message_count, one_tree}
 use Rattle.rap_grammar.proofs.Outputs.{derived, derived_clean, derived_type, derived_type_clean, derived_statements, derived_statements_clean, derived_file, derived_file_clean, derived_items, derived_items_clean, called_file, called_items, begun_file, begun_items, one_output, one_root}
 use Rattle.rap_grammar_core.specs.ParsedAgain.{is_parsed_again, MakesNode}
 use Rattle.rap_grammar_core.proofs.Again.{made_again, block_made, items_made, fields_made, token_tree_made, none_made}
@@ -15,8 +15,12 @@ use Rattle.rap_grammar.proofs.Padded.{top_of_prefix}
 use Rattle.rap_grammar_core.specs.Dots.{dots_inside}
 use Rattle.rap_grammar.proofs.Tables.{expression_of_table, file_of_table, items_of_table, meta_of_table, pattern_of_table, stmts_of_table, type_of_table}
 use Rattle.rap_grammar.proofs.Parts.{one_prefix}
-use Rattle.rap_grammar.proofs.Prefixes.{front_expression, front_type, front_block, front_item, front_part}
-use Rattle.ra_ap_parser.specs.Reparsed.{IsAgainItself}
+use Rattle.rap_grammar_table.specs.Again.{MakesIn, category_in, parsed_again}
+use Rattle.rap_grammar_table.proofs.Again.{made_again as table_made_again}
+use Rattle.rap_grammar_table.proofs.Fronts.{anchored_path_front, block_front, expr_front, global_path_front, item_front, last_stmt_front, meta_front, path_front, pattern_front, single_front, stmt_front, type_front, visibility_front}
+use Rattle.rap_grammar.proofs.Prefixes.{front_expression, front_type, front_block, front_item, front_of_table, front_part}
+use Rattle.rap_grammar_core.specs.StandsIn.{StandsIn}
+use Rattle.ra_ap_parser.specs.Reparsed.{HasNode, IsAgainItself}
 use Rattle.ra_ap_parser.specs.EntryScript.{IsOutputOf, IsCore, IsCall, KeepsFront, IsPrefixOutputOf, IsPrefixCore, WrapsPrefix}
 use Rattle.ra_ap_parser.specs.declared.entry_point.PrefixEntryPoint.{PrefixEntryPoint}
 use Rattle.ra_ap_parser.specs.declared.entry_point.PrefixEntryPoint.TheVariants as prefix
@@ -132,16 +136,23 @@ part_dots part.ItemList input output brace one i = one_inside ITEM_LIST output (
 pub prefix_core : (e : PrefixEntryPoint) (input : List Record) {output : Forest} → IsPrefixOutputOf e input output →
     (front rest : List Record) (tree : Forest) → input ≡ front ++ rest → IsPrefixCore e front rest tree →
     IsWhole tree (length front) output
-prefix_core prefix.Vis input i ks l t e d = absurd d
-prefix_core prefix.Block input i ks l t e d = front_block ks l (rw e at i) d
-prefix_core prefix.Stmt input i ks l t e d = absurd d
-prefix_core prefix.Pat input i ks l t e d = absurd d
-prefix_core prefix.PatTop input i ks l t e d = absurd d
-prefix_core prefix.Ty input i ks l t e d = front_type ks l (rw e at i) d.0 d.1
-prefix_core prefix.Expr input i ks l t e d = front_expression ks l (rw e at i) d.0 d.1
-prefix_core prefix.Path input i ks l t e d = absurd d
-prefix_core prefix.Item input i ks l t e d = front_item ks l (rw e at i) d.0 d.1
-prefix_core prefix.MetaItem input i ks l t e d = absurd d
+prefix_core prefix.Vis input i ks l t e d = front_of_table ks l (rw e at i) d.0 (visibility_front d)
+prefix_core prefix.Block input i ks l t e (inl d) = front_block ks l (rw e at i) d
+prefix_core prefix.Block input i ks l t e (inr d) = front_of_table ks l (rw e at i) d (block_front l d)
+prefix_core prefix.Stmt input i ks l t e (inl d) = front_of_table ks l (rw e at i) d.0 (stmt_front d)
+prefix_core prefix.Stmt input i ks l t e (inr d) = front_of_table ks l (rw e at i) d.0 (last_stmt_front d)
+prefix_core prefix.Pat input i ks l t e d = front_of_table ks l (rw e at i) d.0 (single_front d)
+prefix_core prefix.PatTop input i ks l t e d = front_of_table ks l (rw e at i) d.0 (pattern_front d)
+prefix_core prefix.Ty input i ks l t e (inl d) = front_type ks l (rw e at i) d.0 d.1
+prefix_core prefix.Ty input i ks l t e (inr d) = front_of_table ks l (rw e at i) d.0 (type_front d)
+prefix_core prefix.Expr input i ks l t e (inl d) = front_expression ks l (rw e at i) d.0 d.1
+prefix_core prefix.Expr input i ks l t e (inr d) = front_of_table ks l (rw e at i) d.0 (expr_front d)
+prefix_core prefix.Path input i ks l t e (inl d) = front_of_table ks l (rw e at i) d.0 (path_front d)
+prefix_core prefix.Path input i ks l t e (inr (inl d)) = front_of_table ks l (rw e at i) d.0 (global_path_front d)
+prefix_core prefix.Path input i ks l t e (inr (inr d)) = front_of_table ks l (rw e at i) d.0 (anchored_path_front d)
+prefix_core prefix.Item input i ks l t e (inl d) = front_item ks l (rw e at i) d.0 d.1
+prefix_core prefix.Item input i ks l t e (inr d) = front_of_table ks l (rw e at i) d.0 (item_front d)
+prefix_core prefix.MetaItem input i ks l t e d = front_of_table ks l (rw e at i) d.0 (meta_front d)
 
 -- the same of a part
 pub part_core : (p : Part) (input : List Record) {output : Forest} → IsPrefixOf (part_script p) input output →
@@ -153,16 +164,16 @@ part_core p input i ks l t e d = front_part p ks l (rw e at i) d
 part_made : (p : Part) (own : List Record) {t : Forest} → MakesNode (part_kind p) own t → IsPartCore p own t
 part_made part.Visibility own m = none_made m refl
 part_made part.Path own m = none_made m refl
-part_made part.Block own m = block_made m
-part_made part.RecordFieldList own m = fields_made m
-part_made part.RecordExprFieldList own m = none_made m refl
-part_made part.VariantList own m = none_made m refl
-part_made part.MatchArmList own m = none_made m refl
-part_made part.UseTreeList own m = none_made m refl
-part_made part.ExternItemList own m = none_made m refl
-part_made part.TokenTree own m = token_tree_made m
-part_made part.AssocItemList own m = none_made m refl
-part_made part.ItemList own m = items_made m
+part_made part.Block own m = inl (block_made m)
+part_made part.RecordFieldList own m = inl (fields_made m)
+part_made part.RecordExprFieldList own m = absurd (none_made m refl)
+part_made part.VariantList own m = absurd (none_made m refl)
+part_made part.MatchArmList own m = absurd (none_made m refl)
+part_made part.UseTreeList own m = absurd (none_made m refl)
+part_made part.ExternItemList own m = absurd (none_made m refl)
+part_made part.TokenTree own m = inl (token_tree_made m)
+part_made part.AssocItemList own m = absurd (none_made m refl)
+part_made part.ItemList own m = inl (items_made m)
 
 braces_parsed_again : (p : Part) → in_braces p ≡ true → is_parsed_again (part_kind p) ≡ true
 braces_parsed_again part.Visibility b = absurd cc
@@ -178,8 +189,30 @@ braces_parsed_again part.TokenTree b = refl
 braces_parsed_again part.AssocItemList b = refl
 braces_parsed_again part.ItemList b = refl
 
+-- the same of what the table makes of its tokens
+made_in : (p : Part) (own : List Record) (t : Forest) → in_braces p ≡ true →
+    MakesIn (category_in parsed_again (part_kind p)) own t → IsPartCore p own t
+made_in part.Visibility own t b m = absurd cc
+made_in part.Path own t b m = absurd cc
+made_in part.Block own t b m = inr m
+made_in part.RecordFieldList own t b m = inr m
+made_in part.RecordExprFieldList own t b m = m
+made_in part.VariantList own t b m = m
+made_in part.MatchArmList own t b m = m
+made_in part.UseTreeList own t b m = m
+made_in part.ExternItemList own t b m = m
+made_in part.TokenTree own t b m = inr m
+made_in part.AssocItemList own t b m = m
+made_in part.ItemList own t b m = inr m
+
+has_part : (p : Part) (tokens own : List Record) (tree children : Forest) → in_braces p ≡ true → HasNode tokens tree own →
+    StandsIn tokens tree own (part_kind p) children → IsPartCore p own (node none (part_kind p) children)
+has_part p tokens own tree children b (inl d) s = part_made p own (made_again d s (braces_parsed_again p b))
+has_part p tokens own tree children b (inr d) s =
+    made_in p own (node none (part_kind p) children) b (table_made_again tokens own tree children (part_kind p) d.0 s d.1)
+
 -- a node of a core tree comes out again of its own tokens
 pub part_again : (p : Part) (own : List Record) {output : Forest} → in_braces p ≡ true →
     IsPrefixOf (part_script p) own output → IsAgainItself p own output
 part_again p own b i = λ tokens tree children d s.
-    part_core p own i own [] _ (sym (append-nil own)) (part_made p own (made_again d s (braces_parsed_again p b)))
+    part_core p own i own [] _ (sym (append-nil own)) (has_part p tokens own tree children b d s)

@@ -1,7 +1,7 @@
 -- What a top entry makes of its input.
 use Rattle.std.specs.Prelude.{◌≡◌, ◌≢◌, ◌⊎◌, ℕ, List, true, false, ◌++◌, drop}
 use Rattle.rap_base.specs.NodeKind.{SOURCE_FILE, MACRO_STMTS, MACRO_ITEMS}
-use Rattle.rap_base.specs.TokenKind.{SEMICOLON}
+use Rattle.rap_base.specs.TokenKind.{L_PAREN, SEMICOLON}
 use Rattle.rap_events.specs.Record.{Record, next_kind}
 use Rattle.rap_events.specs.Forest.{Forest, none, node, ◌⧺◌, used}
 use Rattle.rap_grammar_scripts.specs.ThroughKnot.{expr, pattern, pattern_single, type_, meta}
@@ -9,8 +9,10 @@ use Rattle.rap_grammar_core.specs.Derives.{Derives, Expression, Ty, Block, Conte
 use Rattle.rap_grammar_core.specs.MacroCall.{IsMacroCall}
 use Rattle.rap_grammar_core.specs.Mixed.{IsFront}
 use Rattle.rap_grammar_table.specs.Categories as table
+use Rattle.rap_grammar_table.specs.Fronts.{any_but, MakesBefore, MakesFront}
 use Rattle.rap_grammar_table.specs.Table.{Items}
 use Rattle.rap_grammar_table.specs.Tops.{Makes, MakesRow, file_row, items_row, stmts_row}
+use Rattle.rap_grammar.specs.CoreItems.{IsItem}
 use Rattle.rap_grammar.specs.Top.{IsTopOf, IsRootOf, top_tree}
 use Rattle.rap_grammar_scripts.specs.Entry.{source_file, macro_stmts}
 use Rattle.rap_grammar_scripts.specs.Modules.{mod_contents}
@@ -72,11 +74,11 @@ IsCall entry.MetaItem input tree = ⊥
 -- begins with the tree of each, whatever follows the last such token.
 abbrev pub KeepsFront : TopEntryPoint → List Record → Forest → Type 0
 KeepsFront entry.SourceFile input output =
-    (front rest : List Record) (trees : Forest) → input ≡ front ++ rest → IsFront front rest trees →
+    (front rest : List Record) (trees : Forest) → input ≡ front ++ rest → IsFront IsItem front rest trees →
     (more : Forest) × (output ≡ node none SOURCE_FILE (trees ⧺ more))
 KeepsFront entry.MacroStmts input output = Unit {0}
 KeepsFront entry.MacroItems input output =
-    (front rest : List Record) (trees : Forest) → input ≡ front ++ rest → IsFront front rest trees →
+    (front rest : List Record) (trees : Forest) → input ≡ front ++ rest → IsFront IsItem front rest trees →
     (more : Forest) × (output ≡ node none MACRO_ITEMS (trees ⧺ more))
 KeepsFront entry.Pattern input output = Unit {0}
 KeepsFront entry.Ty input output = Unit {0}
@@ -112,16 +114,25 @@ WrapsPrefix entry.Ty input output = IsTopOfPrefix prefix.Ty input output
 WrapsPrefix entry.Expr input output = IsTopOfPrefix prefix.Expr input output
 WrapsPrefix entry.MetaItem input output = IsTopOfPrefix prefix.MetaItem input output
 
--- The front of an input is derived by the core grammar, with this tree, before what can follow it: an expression before
--- the end, `;`, `,` or `)`; a type before what can follow a type; an item before no semicolon; a block before anything.
+-- The front of an input is derived by the core grammar, with this tree, as the relation has it or as the table has it,
+-- before what can follow it. By the relation that is: an expression before the end, `;`, `,` or `)`; a type before what
+-- can follow a type; an item before no semicolon; a block before anything. By the table it is what the table says of
+-- the category; but an item stands before any token but a semicolon, a visibility before any but a parenthesis, and a
+-- block before anything.
 abbrev pub IsPrefixCore : PrefixEntryPoint → List Record → List Record → Forest → Type 0
-IsPrefixCore prefix.Vis front rest tree = ⊥
-IsPrefixCore prefix.Block front rest tree = Derives Block front tree
-IsPrefixCore prefix.Stmt front rest tree = ⊥
-IsPrefixCore prefix.Pat front rest tree = ⊥
-IsPrefixCore prefix.PatTop front rest tree = ⊥
-IsPrefixCore prefix.Ty front rest tree = Derives Ty front tree × EndsType rest
-IsPrefixCore prefix.Expr front rest tree = Derives Expression front tree × EndsExpression rest
-IsPrefixCore prefix.Path front rest tree = ⊥
-IsPrefixCore prefix.Item front rest tree = Derives Item front tree × (next_kind rest ≢ SEMICOLON)
-IsPrefixCore prefix.MetaItem front rest tree = ⊥
+IsPrefixCore prefix.Vis front rest tree = MakesBefore (any_but L_PAREN) table.Visibility front rest tree
+IsPrefixCore prefix.Block front rest tree = Derives Block front tree ⊎ Makes table.Block front tree
+IsPrefixCore prefix.Stmt front rest tree =
+    MakesFront table.FrontStmt front rest tree ⊎ MakesFront table.LastStmt front rest tree
+IsPrefixCore prefix.Pat front rest tree = MakesFront table.SinglePattern front rest tree
+IsPrefixCore prefix.PatTop front rest tree = MakesFront table.Pattern front rest tree
+IsPrefixCore prefix.Ty front rest tree = (Derives Ty front tree × EndsType rest) ⊎ MakesFront table.Ty front rest tree
+IsPrefixCore prefix.Expr front rest tree =
+    (Derives Expression front tree × EndsExpression rest) ⊎ MakesFront table.Expr front rest tree
+IsPrefixCore prefix.Path front rest tree =
+    MakesFront table.Path front rest tree ⊎
+    (MakesFront table.GlobalPath front rest tree ⊎ MakesFront table.AnchoredPath front rest tree)
+IsPrefixCore prefix.Item front rest tree =
+    (Derives Item front tree × (next_kind rest ≢ SEMICOLON)) ⊎
+    MakesBefore (any_but SEMICOLON) table.Item front rest tree
+IsPrefixCore prefix.MetaItem front rest tree = MakesFront table.Meta front rest tree

@@ -1,12 +1,13 @@
 -- Which nodes can be parsed again from their own tokens, and that they are themselves again.
-use Rattle.std.specs.Prelude.{ℕ, ◌==◌, ◌&&◌, ◌||◌, if◌then◌else◌, Bool, false, List, [], ◌∷◌, length, Option, Some, None}
+use Rattle.std.specs.Prelude.{◌≡◌, ◌⊎◌, ℕ, ◌==◌, ◌&&◌, ◌||◌, if◌then◌else◌, Bool, false, List, [], ◌∷◌, length, Option, Some, None}
 use Rattle.rap_base.specs.NodeKind.{BLOCK_EXPR, RECORD_FIELD_LIST, RECORD_EXPR_FIELD_LIST, VARIANT_LIST, MATCH_ARM_LIST, USE_TREE_LIST, EXTERN_ITEM_LIST, TOKEN_TREE, ASSOC_ITEM_LIST, ITEM_LIST, IMPL, TRAIT}
 use Rattle.rap_base.specs.TokenKind.{L_CURLY}
-use Rattle.rap_events.specs.Record.{Record}
+use Rattle.rap_events.specs.Record.{Record, next_kind}
 use Rattle.rap_events.specs.Forest.{Forest, none, node}
 use Rattle.rap_grammar_scripts.specs.First.{one_of}
 use Rattle.rap_grammar_core.specs.ParsedAgain.{IsCoreTree}
 use Rattle.rap_grammar_core.specs.StandsIn.{StandsIn}
+use Rattle.rap_grammar_table.specs.Again.{IsTableTree}
 use Rattle.rap_grammar.specs.Part.{part_kind, IsWhole}
 use Rattle.rap_grammar.specs.declared.entry.part.Part.{Part}
 
@@ -31,10 +32,14 @@ abbrev pub kind_of : Option Part → Option ℕ
 kind_of None = None
 kind_of (Some p) = Some (part_kind p)
 
+-- A tree of the core grammar, as the relation has it, or as the table has it, and then this node begins with a brace.
+abbrev pub HasNode : List Record → Forest → List Record → Type 0
+HasNode tokens tree own = IsCoreTree tokens tree ⊎ (IsTableTree tokens tree × (next_kind own ≡ L_CURLY))
+
 -- Wherever a node of this part stands in a core tree, with these tokens as its own: the output is that node, without a
 -- message, and takes them all.
 abbrev pub IsAgainItself : Part → List Record → Forest → Type 0
 IsAgainItself part own output =
-    (tokens : List Record) (tree children : Forest) → IsCoreTree tokens tree →
+    (tokens : List Record) (tree children : Forest) → HasNode tokens tree own →
     StandsIn tokens tree own (part_kind part) children →
     IsWhole (node none (part_kind part) children) (length own) output

@@ -91,17 +91,19 @@ impl TopEntryPoint {
     ///
     /// The error is `TooManyTokens` exactly for an input of more than [`MAX_TOKENS`] tokens, which is tested first;
     /// otherwise `NoMemory` if the allocator refused a request. The tree is that of the entry's script, and no other.
-    /// An input that the core grammar derives, under `SourceFile` as a file, under `Expr` as an expression and under
-    /// `Ty` as a type, gives its derivation's tree, without a message. So does one that it derives as any number of
-    /// items, under `MacroItems`, where the tree is a `MACRO_ITEMS` of them; and as the contents of a block, under
-    /// `MacroStmts`, where it is a `MACRO_STMTS` of the statements, and of the value after them if there is one. A
-    /// macro call, of a name and balanced tokens in braces, gives under `SourceFile` and `MacroItems` the entry's node
-    /// over one `MACRO_CALL`, whose `TOKEN_TREE` nests as the brackets do, without a message. Where an input begins
-    /// with items of the core grammar and with `@`, `,` and integers, in any order, the entry's node begins under these
-    /// two with the tree of each item and an `ERROR` of a message and one leaf for each such token, whatever follows
-    /// the last one. `Pattern`, `Ty`, `Expr` and `MetaItem` give what `PatTop`, `Ty`, `Expr` and `MetaItem` of
-    /// [`PrefixEntryPoint`] read, where that is one tree over the whole input, and else an `ERROR` over it and a leaf
-    /// for each token that is left.
+    /// An input that the core grammar derives, by its relation or by its table of rows, gives its derivation's tree,
+    /// without a message: under `SourceFile` as a file, under `Expr` as an expression, under `Ty` as a type; by the
+    /// table alone under `Pattern` as a pattern and under `MetaItem` as what stands in the brackets of an attribute. By
+    /// the table items, fields, statements and more may have attributes and documentation, and a file a shebang and
+    /// frontmatter. Under `MacroItems` it is any number of items, and the tree is a `MACRO_ITEMS` of them; under
+    /// `MacroStmts` it is the contents of a block, and the tree is a `MACRO_STMTS` of the statements, and of the value
+    /// after them if there is one. A macro call, of a name and balanced tokens in braces, gives under `SourceFile` and
+    /// `MacroItems` the entry's node over one `MACRO_CALL`, whose `TOKEN_TREE` nests as the brackets do, without a
+    /// message. Where an input begins with items of the core grammar and with `@`, `,` and integers, in any order, the
+    /// entry's node begins under these two with the tree of each item and an `ERROR` of a message and one leaf for each
+    /// such token, whatever follows the last one. `Pattern`, `Ty`, `Expr` and `MetaItem` give what `PatTop`, `Ty`,
+    /// `Expr` and `MetaItem` of [`PrefixEntryPoint`] read, where that is one tree over the whole input, and else an
+    /// `ERROR` over it and a leaf for each token that is left.
     pub fn parse(&self, alloc: Global, input: &Input) -> Result<Output, ParseFault>
         ensures tree { IfOk result (IsTreeOver input.now) }
         ensures script { IfOk result (IsOutputOf self.now input.now) }
@@ -178,8 +180,10 @@ impl PrefixEntryPoint {
     /// sum of the `n_input_tokens` of its steps, and one for each float that is split. The error is `TooManyTokens`
     /// exactly for an input of more than [`MAX_TOKENS`] tokens, which is tested first; otherwise `NoMemory` if the
     /// allocator refused a request. The output is that of the entry's script, and no other. If the core grammar derives
-    /// a prefix of the input, as a block, a type, an expression or an item, and the next tokens can follow it, the
-    /// output is the tree of the derivation, without a message, and takes that prefix.
+    /// a prefix of the input and the next tokens can follow it, the output is the tree of the derivation, without a
+    /// message, and takes that prefix. By the relation it may be a block, a type, an expression or an item; by the
+    /// table of rows also a pattern with or without alternatives, what stands in the brackets of an attribute, the path
+    /// of a type, a visibility, or a statement without its semicolon.
     pub fn parse(&self, alloc: Global, input: &Input) -> Result<Output, ParseFault>
         ensures prefix { IfOk result (IsPrefixOver input.now) }
         ensures script { IfOk result (IsPrefixOutputOf self.now input.now) }

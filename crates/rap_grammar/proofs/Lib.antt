@@ -1,3 +1,4 @@
+pub mod CoreItems
 pub mod Depth
 pub mod DotsInside
 pub mod OneTree

@@ -11,7 +11,9 @@ use Rattle.rap_grammar_scripts.specs.Knot.{script_of, Follows}
 use Rattle.rap_grammar_scripts.specs.declared.rule.Rule.{Rule}
 use Rattle.rap_grammar_scripts.specs.Script.{Script, forests, Spot, Outcome, something, Runs}
 use Rattle.rap_grammar_scripts.specs.Entry.{macro_stmts, source_file}
+use Rattle.rap_grammar.specs.CoreItems.{IsItem}
 use Rattle.rap_grammar.specs.Top.{IsTopOf, IsRootOf, top_tree}
+use Rattle.rap_grammar.proofs.CoreItems.{core_items}
 use Rattle.rap_grammar_core.proofs.Complete.{expression_whole, type_whole, contents_whole, expression_at_beginning}
 use Rattle.rap_grammar_scripts.proofs.OneEnd.{Same, one_end}
 use Rattle.rap_grammar_core.proofs.Recovery.{file_begins, contents_begin}
@@ -99,16 +101,16 @@ called_items i d = let e = root_of i (call_whole d (none ∷ [])) in (e, ap mess
 -- what begins with items and tokens that begin none stands first under the node of its entry
 pub begun_file : {front rest : List Record} {t output : Forest} →
     IsRootOf SOURCE_FILE source_file (front ++ rest) output →
-    IsFront front rest t → (more : Forest) × (output ≡ node none SOURCE_FILE (t ⧺ more))
+    IsFront IsItem front rest t → (more : Forest) × (output ≡ node none SOURCE_FILE (t ⧺ more))
 begun_file i d =
-    let x = file_begins d (none ∷ []) i.run in
+    let x = file_begins core_items d (none ∷ []) i.run in
     (x.0, i.tree ∙ ap (λ (f : Forest). node none SOURCE_FILE f) x.1)
 
 pub begun_items : {front rest : List Record} {t output : Forest} →
     IsRootOf MACRO_ITEMS (mod_contents false) (front ++ rest) output →
-    IsFront front rest t → (more : Forest) × (output ≡ node none MACRO_ITEMS (t ⧺ more))
+    IsFront IsItem front rest t → (more : Forest) × (output ≡ node none MACRO_ITEMS (t ⧺ more))
 begun_items i d =
-    let x = contents_begin d (none ∷ []) i.run in
+    let x = contents_begin core_items d (none ∷ []) i.run in
     (x.0, i.tree ∙ ap (λ (f : Forest). node none MACRO_ITEMS f) x.1)
 
 -- the same input gives the same output

@@ -1,5 +1,5 @@
 -- What is derived at the front of an input is read as it was derived, up to its end.
-use Rattle.std.proofs.Common.{◌≡◌, ◌≢◌, true, ap, ◌∙◌, append_assoc, List, [], ◌∷◌, ◌++◌, length}
+use Rattle.std.proofs.Common.{◌≡◌, ◌≢◌, inl, inr, true, ap, ◌∙◌, append_assoc, List, [], ◌∷◌, ◌++◌, length, ℕ}
 use Rattle.std.proofs.lemmas.Bool.{ne_eqb}
 use Rattle.rap_base.specs.TokenKind.{SEMICOLON}
 use Rattle.rap_events.specs.Record.{Record, next_kind}
@@ -14,6 +14,9 @@ use Rattle.rap_grammar_scripts.proofs.Balance.{balanced_way, balanced_clean}
 use Rattle.rap_grammar_scripts.proofs.OneEnd.{one_end}
 use Rattle.rap_grammar_core.specs.Derives.{Category, Derives, Expression, Ty, Block, Item, EndsExpression, EndsType}
 use Rattle.rap_grammar_core.specs.ParsedAgain.{IsBracketed, brackets_around}
+use Rattle.rap_grammar_table.specs.Tops.{Makes}
+use Rattle.rap_grammar_table.proofs.Again.{category_used}
+use Rattle.rap_grammar_table.proofs.Fronts.{MakesOf, arms_front, assoc_items_front, block_front, category_clean, extern_items_front, fields_front, items_front, token_tree_front, use_trees_front, values_front, variants_front}
 use Rattle.rap_grammar.specs.Part.{IsPrefixOf, IsPartCore, IsWhole, part_script}
 use Rattle.rap_grammar.specs.declared.entry.part.Part.{Part}
 use Rattle.rap_grammar.specs.declared.entry.part.Part.TheVariants as part
@@ -33,6 +36,11 @@ made ks l i x clean all =
 front : {s : Script Rule} {c : Category} (ks l : List Record) {t output : Forest} → IsPrefixOf s (ks ++ l) output →
     Derives c ks t → Leads s [] (ks ++ l) none l t → IsWhole t (length ks) output
 front ks l i d x = made ks l i x (unmarked d) (used-derived d)
+
+-- the same of what the table derives
+pub front_of_table : {s : Script Rule} {c : ℕ} (ks l : List Record) {t output : Forest} →
+    IsPrefixOf s (ks ++ l) output → Makes c ks t → MakesOf s ks l t → IsWhole t (length ks) output
+front_of_table ks l i d m = made ks l i (m []) (category_clean d) (category_used d)
 
 -- an expression, before what can follow one that is read alone
 pub front_expression : (ks l : List Record) {t output : Forest} → IsPrefixOf expr (ks ++ l) output →
@@ -67,13 +75,17 @@ pub front_part : (p : Part) (ks l : List Record) {t output : Forest} → IsPrefi
     IsPartCore p ks t → IsWhole t (length ks) output
 front_part part.Visibility ks l i d = absurd d
 front_part part.Path ks l i d = absurd d
-front_part part.Block ks l i d = front_block ks l i d
-front_part part.RecordFieldList ks l i d = front ks l i d (rw none-⧺ at (fields_of_before d [] none l))
-front_part part.RecordExprFieldList ks l i d = absurd d
-front_part part.VariantList ks l i d = absurd d
-front_part part.MatchArmList ks l i d = absurd d
-front_part part.UseTreeList ks l i d = absurd d
-front_part part.ExternItemList ks l i d = absurd d
-front_part part.TokenTree ks l i d = front_bracketed ks l i d
-front_part part.AssocItemList ks l i d = absurd d
-front_part part.ItemList ks l i d = front ks l i d (rw none-⧺ at (items_of_before d [] none l))
+front_part part.Block ks l i (inl d) = front_block ks l i d
+front_part part.Block ks l i (inr d) = front_of_table ks l i d (block_front l d)
+front_part part.RecordFieldList ks l i (inl d) = front ks l i d (rw none-⧺ at (fields_of_before d [] none l))
+front_part part.RecordFieldList ks l i (inr d) = front_of_table ks l i d (fields_front l d)
+front_part part.RecordExprFieldList ks l i d = front_of_table ks l i d (values_front l d)
+front_part part.VariantList ks l i d = front_of_table ks l i d (variants_front l d)
+front_part part.MatchArmList ks l i d = front_of_table ks l i d (arms_front l d)
+front_part part.UseTreeList ks l i d = front_of_table ks l i d (use_trees_front l d)
+front_part part.ExternItemList ks l i d = front_of_table ks l i d (extern_items_front l d)
+front_part part.TokenTree ks l i (inl d) = front_bracketed ks l i d
+front_part part.TokenTree ks l i (inr d) = front_of_table ks l i d (token_tree_front l d)
+front_part part.AssocItemList ks l i d = front_of_table ks l i d (assoc_items_front l d)
+front_part part.ItemList ks l i (inl d) = front ks l i d (rw none-⧺ at (items_of_before d [] none l))
+front_part part.ItemList ks l i (inr d) = front_of_table ks l i d (items_front l d)

@@ -1,12 +1,11 @@
 -- What a parse of a whole input makes of what the table of the grammar derives.
-use Rattle.std.proofs.Common.{◌≡◌, [], ◌∷◌, List, true, false, refl, ap, ◌∙◌}
+use Rattle.std.proofs.Common.{◌≡◌, [], ◌∷◌, List, true, false, ap, ◌∙◌}
 use Rattle.rap_base.specs.NodeKind.{MACRO_ITEMS, MACRO_STMTS, SOURCE_FILE}
 use Rattle.rap_events.specs.Forest.{Forest, none, node, message_count, one_tree}
 use Rattle.rap_events.specs.Record.{Record}
 use Rattle.rap_grammar_scripts.specs.Entry.{macro_stmts, source_file}
-use Rattle.rap_grammar_scripts.specs.Knot.{script_of}
 use Rattle.rap_grammar_scripts.specs.Modules.{mod_contents}
-use Rattle.rap_grammar_scripts.specs.Script.{Script, Spot, Runs, something}
+use Rattle.rap_grammar_scripts.specs.Script.{Script, Spot}
 use Rattle.rap_grammar_scripts.specs.ThroughKnot.{expr, meta, pattern, type_}
 use Rattle.rap_grammar_scripts.specs.declared.rule.Rule.{Rule}
 use Rattle.rap_grammar_scripts.proofs.OneEnd.{one_end}
@@ -15,7 +14,8 @@ use Rattle.rap_grammar_core.specs.Dots.{dots_inside}
 use Rattle.rap_grammar_table.specs.Categories.{Expr, Meta, Pattern, Ty}
 use Rattle.rap_grammar_table.specs.Good.{IsNode}
 use Rattle.rap_grammar_table.specs.Tops.{Makes, MakesRow, file_row, items_row, stmts_row}
-use Rattle.rap_grammar_table.proofs.Tops.{MakesOf, category_clean, expr_is_node, expr_made, file_made, items_made, meta_is_node, meta_made, pattern_is_node, pattern_made, row_clean, stmts_made, type_is_node, type_made}
+use Rattle.rap_grammar_table.proofs.Fronts.{category_clean, row_clean}
+use Rattle.rap_grammar_table.proofs.Tops.{MakesAll, expr_is_node, expr_made, file_made, items_made, meta_is_node, meta_made, pattern_is_node, pattern_made, stmts_made, type_is_node, type_made}
 use Rattle.rap_grammar.specs.Top.{IsRootOf, IsTopOf, top_tree}
 use Rattle.rap_grammar.proofs.DotsInside.{expression_makes_none, meta_makes_none, pattern_makes_none, type_makes_none}
 use Rattle.rap_grammar.proofs.Outputs.{root_of, top_tree-whole}
@@ -39,7 +39,7 @@ one_of_node : {t : Forest} → IsNode t → dots_inside t ≡ true → one_tree 
 one_of_node n h = rw n.node_is (rw n.node_is at h)
 
 -- what is read alone, of one node, is that node
-top_of : {s : Script Rule} {input : List Record} {t output : Forest} → IsTopOf s input output → MakesOf s input t →
+top_of : {s : Script Rule} {input : List Record} {t output : Forest} → IsTopOf s input output → MakesAll s input t →
     one_tree t ≡ true → output ≡ t
 top_of {t = t} i m h =
     let e = one_end i.run (m (none ∷ [])) in

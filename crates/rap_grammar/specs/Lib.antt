@@ -1,3 +1,4 @@
 pub mod Brief
+pub mod CoreItems
 pub mod Part
 pub mod Top

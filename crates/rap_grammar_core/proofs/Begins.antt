@@ -339,7 +339,7 @@ settled_unary (unary_ref_mut {a = a} {b = b} {ks = ks} o m d) l =
     ∙ sym (past_is a (b ∷ ks) AMP o refl ∙ past_is b ks MUT_KW m refl)
 settled_unary (unary_postfix d) l = settled l (first d refl)
 
-settled_binary : {p : ℕ} {ks : List Record} {t : Forest} → Derives (Binary p) ks t → (l : List Record) →
+pub settled_binary : {p : ℕ} {ks : List Record} {t : Forest} → Derives (Binary p) ks t → (l : List Record) →
     starts_with_block (ks ++ l) ≡ starts_with_block ks
 settled_binary (binary_unary d) l = settled_unary d l
 settled_binary (binary_tighter h i d) l = settled_binary d l

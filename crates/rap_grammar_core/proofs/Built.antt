@@ -1,6 +1,6 @@
 -- What is derived stands over its tokens, leaf by leaf, and each of its nodes that is parsed again alone is made by its
 -- own tokens.
-use Rattle.std.proofs.Common.{◌≡◌, ℕ, List, [], ◌∷◌, ◌++◌, length, length-append, append_assoc, append-nil, Bool, true, false, refl, sym, ◌∙◌, subst, arith}
+use Rattle.std.proofs.Common.{◌≡◌, ℕ, List, [], ◌∷◌, ◌++◌, length, append_assoc, Bool, true, false, refl, sym, ◌∙◌, subst, arith}
 use Rattle.rap_base.specs.TokenKind.{EQ, L_CURLY, R_CURLY, SEMICOLON, IDENT, AMP, BANG, DOT, COLON, COMMA, QUESTION, L_PAREN, R_PAREN, L_BRACK, R_BRACK, MUT_KW, PUB_KW, MOD_KW, STRUCT_KW, FN_KW, LET_KW, IF_KW, ELSE_KW, WHILE_KW, LOOP_KW, INT_NUMBER}
 use Rattle.rap_base.specs.NodeKind.{PATH, PATH_SEGMENT, NAME_REF, EXPR_STMT, TOKEN_TREE}
 use Rattle.rap_events.specs.Record.{Record}
@@ -9,26 +9,15 @@ use Rattle.rap_events.specs.Forest.{Forest, none, node, leaf, ◌⧺◌, used}
 use Rattle.rap_grammar_core.specs.Derives.{Touching, tokens_of, Writes, Category, Derives, maybe_none, maybe_some, many_none, many_more, element_last, element_comma, element_more, reference, segment, path_one, path_more, atom_literal, atom_path, atom_paren, atom_block, postfix_atom, postfix_call, postfix_index, postfix_try, postfix_field, postfix_number, postfix_method, argument_list, unary_prefix, unary_ref, unary_ref_mut, unary_postfix, binary_unary, binary_tighter, binary_operator, expression_binary, expression_assign, type_path, type_ref, type_ref_mut, type_slice, name_given, bind_name, visibility_pub, annotation_type, value_given, statement_let, statement_expression, statement_block, contents_none, contents_value, contents_block, contents_statement, contents_block_before, block_of, with_block, with_if, with_while, with_loop, if_of, else_block, else_if, item_module, item_module_of, item_struct, item_struct_fields, item_struct_tuple, item_function, items_of, fields_of, field_named, tuple_of, tuple_field, params_of, param_typed, return_type, file_of}
 use Rattle.rap_grammar_core.specs.MacroCall.{IsMacroCall, called}
 use Rattle.rap_grammar_core.specs.ParsedAgain.{is_parsed_again, IsBracketed, brackets_around, MakesNode, a_block, a_list_of_items, a_list_of_fields, a_token_tree, IsCoreTree, derived, a_call}
+use Rattle.rap_grammar_core.proofs.Standing.{Stands, empty, with_leaf, with_node, both, used-stands}
 use Rattle.rap_grammar_scripts.specs.Balanced.{Balanced, ArePartners, nothing_more, token_first, list_first, in_brackets}
 
 -- a node that is parsed again alone is made by these tokens
 abbrev pub MadeAgain : ℕ → List Record → Forest → Type 0
 MadeAgain kind own children = is_parsed_again kind ≡ true → MakesNode kind own (node none kind children)
 
--- A forest over these tokens: leaves and nodes, and nothing else.
-pub data Built : List Record → Forest → Type 0 where
-  empty : Built [] none
-  with_leaf : {ks : List Record} {f : Forest} {kind width : ℕ} (os : List Record) → Built ks f → length os ≡ width →
-      Built (ks ++ os) (leaf f kind width)
-  with_node : {ks js : List Record} {f c : Forest} {kind : ℕ} → Built ks f → Built js c → MadeAgain kind js c →
-      Built (ks ++ js) (node f kind c)
-
--- one forest after another
-both : {ks js : List Record} {t u : Forest} → Built ks t → Built js u → Built (ks ++ js) (t ⧺ u)
-both x empty = rw append-nil x
-both {ks = ks} x (with_leaf {ks = is} {f = f} {kind = k} {width = w} os y e) =
-    rw (append_assoc ks is os) at (with_leaf {kind = k} {width = w} os (both x y) e)
-both {ks = ks} x (with_node {ks = is} {js = js} y z g) = rw (append_assoc ks is js) at (with_node (both x y) z g)
+abbrev pub Built : List Record → Forest → Type 0
+Built ks t = Stands MadeAgain ks t
 
 -- a leaf of one token after a forest, and alone
 plus : {ks : List Record} {f : Forest} → Built ks f → (r : Record) (kind : ℕ) → Built (ks ++ r ∷ []) (leaf f kind 1)
@@ -182,6 +171,4 @@ core_built (a_call d) = call_built d
 
 -- what is built stands for its tokens
 pub used-built : {ks : List Record} {t : Forest} → Built ks t → used t ≡ length ks
-used-built empty = refl
-used-built (with_leaf {ks = ks} os x e) = rw (length-append ks os) (omega (arith, used-built x, e))
-used-built (with_node {ks = ks} {js = js} x y g) = rw (length-append ks js) (omega (arith, used-built x, used-built y))
+used-built x = used-stands x

@@ -1,6 +1,6 @@
 -- How a script ends that begins at these levels, said by rules: what is computed, and beside it what the tests on
 -- the way say of the dots of a range.
-use Rattle.std.proofs.Common.{◌≡◌, ℕ, Bool, true, false, ◌&&◌, not, List, [], ◌∷◌, ◌++◌, append-nil, if◌then◌else◌, refl}
+use Rattle.std.proofs.Common.{◌≡◌, ℕ, Bool, true, false, ◌&&◌, not, List, [], ◌∷◌, ◌++◌, append-nil, refl}
 use Rattle.rap_events.proofs.Truth.{and_left, and_right}
 use Rattle.rap_events.specs.Record.{Record}
 use Rattle.rap_grammar_scripts.specs.Postfix.{is_range}
@@ -8,7 +8,7 @@ use Rattle.rap_grammar_scripts.specs.declared.rule.Rule.{Rule}
 use Rattle.rap_grammar_scripts.specs.Test.{Test, holds}
 use Rattle.rap_grammar_scripts.specs.Script.{Script, Outcome, nothing, something, block, again, give, test, ends_with, token, any, bear, report, report_next, skip, start, precede, finish, extend, abandon, split_float, after, rule, loop}
 use Rattle.rap_grammar_core.proofs.Ends.{same_flag}
-use Rattle.rap_grammar_core.proofs.Endings.{Ending, unknown, gather, flagged, every, Decides, Then, Turned, joined_left, joined_right, gathered, settled, of_flags}
+use Rattle.rap_grammar_core.proofs.Endings.{Ending, gather, flagged, every, Decides, Then, Turned, joined_left, joined_right, gathered, settled, of_flags}
 use Rattle.rap_grammar_core.proofs.DotEnds.{Level, inside, ranged, free, same_level, within, Levels, levels, same_lower, same_levels, as_good, added, lowered, raised, before_last, extended, merged, Said, never, at_level, said, called, one_end, dot_ends}
 
 -- what the next tokens are where the last node may end in a dot

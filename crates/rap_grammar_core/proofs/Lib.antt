@@ -20,6 +20,7 @@ pub mod Lists
 pub mod MacroCalls
 pub mod Operators
 pub mod Recovery
+pub mod Standing
 pub mod StatementWays
 pub mod TypeWays
 pub mod Unique

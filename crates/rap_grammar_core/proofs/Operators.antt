@@ -38,7 +38,7 @@ other_first k [] (r ∷ rs) e = e
 other_first k (j ∷ ks) (r ∷ rs) e = rw e refl
 
 -- an operand's first token is no part of an operator but `&`, `*`, `!` and `-`
-no_more : (k : ℕ) (ks : List ℕ) (rs : List Record) → is_operand (next_kind rs) ≡ true → is_operand k ≡ false →
+pub no_more : (k : ℕ) (ks : List ℕ) (rs : List Record) → is_operand (next_kind rs) ≡ true → is_operand k ≡ false →
     begins_with (k ∷ ks) rs ≡ false
 no_more k ks rs h i = other_first k ks rs (differ is_operand (next_kind rs) k h i)
 
@@ -78,7 +78,7 @@ record Seen (op : ℕ) : Type 0 where
   calm : power op ≢ 2 → power op < 12 → is_calm false (lead (tokens_of (parts op) op)) ≡ true
   bang : ((lead (tokens_of (parts op) op) == BANG) ≡ false) ⊎ (op ≡ NEQ)
 
-by_truth : {A : Type 0} (b : Bool) → (b ≡ true → A) → (b ≡ false → A) → A
+pub by_truth : {A : Type 0} (b : Bool) → (b ≡ true → A) → (b ≡ false → A) → A
 by_truth true f g = f refl
 by_truth false f g = g refl
 
@@ -179,12 +179,12 @@ by_table op (f ∷ ks) os rest s w h =
     rw (lead_is (f ∷ ks) os rest w) (in_table op f ks operators os rest s w h)
 
 -- the operator `&`, which an operand may begin with too
-record One (k : ℕ) (os : List Record) : Type 0 where
-  r : Record
-  is : os ≡ r ∷ []
-  kind : r.kind ≡ k
+pub record One (k : ℕ) (os : List Record) : Type 0 where
+  pub r : Record
+  pub is : os ≡ r ∷ []
+  pub kind : r.kind ≡ k
 
-one : (k : ℕ) (os : List Record) → Touching (k ∷ []) os → One k os
+pub one : (k : ℕ) (os : List Record) → Touching (k ∷ []) os → One k os
 one k [] h = absurd h
 one k (r ∷ []) h = record { r = r; is = refl; kind = h }
 one k (r ∷ s ∷ os) h = absurd h
@@ -194,7 +194,7 @@ both_never true true h = absurd (h refl refl)
 both_never true false h = refl
 both_never false b h = refl
 
-amp_apart : (r : Record) (rest : List Record) → (next_kind rest ≡ AMP → r.joint ≢ true) →
+pub amp_apart : (r : Record) (rest : List Record) → (next_kind rest ≡ AMP → r.joint ≢ true) →
     r.joint && begins_with (AMP ∷ []) rest ≡ false
 amp_apart r [] h = and_false r.joint
 amp_apart r (s ∷ rest) h = both_never r.joint (s.kind == AMP) (λ e f. h (eqb-true s.kind AMP f) e)

@@ -1,6 +1,6 @@
 -- What begins with items and tokens that begin none is read as that, whatever follows.
 use Rattle.std.proofs.Common.{◌≡◌, ℕ, List, [], ◌∷◌, ◌++◌, Bool, true, false, refl, ap, sym, ◌∙◌, subst, ◌==◌, append_assoc}
-use Rattle.rap_base.specs.TokenKind.{EOF, IDENT, AT, COMMA, INT_NUMBER, R_CURLY, SEMICOLON, POUND, EXTERN_KW, SHEBANG, INNER_DOC_COMMENT, FRONTMATTER, USE_KW, MOD_KW, TYPE_KW, PUB_KW, OUTER_DOC_COMMENT, STRUCT_KW, FN_KW, SELF_KW, CONST_KW, SUPER_KW, ENUM_KW, MACRO_KW, CRATE_KW, STATIC_KW, DEFAULT_KW, TRAIT_KW, COLON, IMPL_KW, ASYNC_KW, L_CURLY, GEN_KW, LET_KW, UNSAFE_KW, SAFE_KW, AUTO_KW}
+use Rattle.rap_base.specs.TokenKind.{EOF, IDENT, AT, COMMA, INT_NUMBER, R_CURLY, POUND, EXTERN_KW, SHEBANG, INNER_DOC_COMMENT, FRONTMATTER, USE_KW, MOD_KW, TYPE_KW, PUB_KW, OUTER_DOC_COMMENT, STRUCT_KW, FN_KW, SELF_KW, CONST_KW, SUPER_KW, ENUM_KW, MACRO_KW, CRATE_KW, STATIC_KW, DEFAULT_KW, TRAIT_KW, COLON, IMPL_KW, ASYNC_KW, L_CURLY, GEN_KW, LET_KW, UNSAFE_KW, SAFE_KW, AUTO_KW}
 use Rattle.rap_events.specs.Record.{Record, next_kind}
 use Rattle.rap_events.specs.Forest.{Forest, none, ◌⧺◌}
 use Rattle.rap_grammar_core.specs.Mixed.{IsStray, stray_tree, Mixed, no_more, an_item, a_stray, IsFront, whole, before}
@@ -8,12 +8,12 @@ use Rattle.rap_grammar_scripts.proofs.Forests.{⧺-assoc}
 use Rattle.rap_grammar_scripts.proofs.OneEnd.{one_end}
 use Rattle.rap_events.proofs.Truth.{and_false}
 use Rattle.rap_grammar_scripts.specs.Script.{Outcome, nothing, something, block, again, Spot, Runs, Script, follows, fails, passes, obeys, loop, gives, turns, starts, stops, goes_on, abandons, skips}
-use Rattle.rap_grammar_core.proofs.Begins.{first, next_begins, begins_item}
 use Rattle.rap_grammar_core.proofs.Operators.{differ, differ_back}
 use Rattle.rap_grammar_core.proofs.Ways.{Leads, none-⧺, no_attributes}
-use Rattle.rap_grammar_core.proofs.ItemWays.{Goes, no_semicolon, no_pub_way, no_inner_attributes}
-use Rattle.rap_grammar_core.proofs.Items.{item_before}
+use Rattle.rap_grammar_core.proofs.ItemWays.{Goes, no_pub_way}
 use Rattle.rap_grammar_core.proofs.Adds.{items_add}
+use Rattle.rap_grammar_scripts.specs.Attributes.{inner_attrs, is_inner_attr_start}
+use Rattle.rap_grammar_scripts.specs.Test.{holds}
 use Rattle.rap_grammar_scripts.specs.Modules.{items, mod_contents}
 use Rattle.rap_grammar_scripts.specs.Items.{item_or_macro, opt_item_without_modifiers, opt_item, marked_item, opt_modified_item, opt_item_with_modifiers, macro_or_error, opt_extern_block, missing_item, refuse}
 use Rattle.rap_grammar_scripts.specs.Entry.{source_file}
@@ -119,64 +119,107 @@ behind_item : {b : List Forest} {rs l : List Record} {f g : Forest} {q : Spot} {
 unfolding items script_of
 behind_item x e c r = behind_turn (fails e (fails (rw c refl) (obeys x gives))) r
 
-mixed_apart : {ks : List Record} {t : Forest} → Mixed ks t → (l : List Record) (k : ℕ) → begins_item k ≡ false →
-    is_stray k ≡ false → (next_kind l == k) ≡ false → (next_kind (ks ++ l) == k) ≡ false
-mixed_apart no_more l k h i e = e
-mixed_apart (an_item {ks = ks} {js = js} d m) l k h i e =
-    rw append_assoc (differ begins_item (next_kind (ks ++ (js ++ l))) k (next_begins (js ++ l) (first d refl)) h)
-mixed_apart (a_stray s m) l k h i e = not_so s k i
+-- neither a shebang nor frontmatter comes next, nor an attribute of the file
+pub record StartsFile (rs : List Record) : Type 0 where
+  pub no_shebang : (next_kind rs == SHEBANG) ≡ false
+  pub no_frontmatter : (next_kind rs == FRONTMATTER) ≡ false
+  pub no_attribute : holds is_inner_attr_start rs ≡ false
+
+-- What is known of items, in a list before what may come next: one item leads on to what comes then.
+pub record AreItems (IsItem : List Record → Forest → Type 0) (Next : List Record → Type 0) : Type 0 where
+  pub none_next : Next []
+  pub stray_next : {r : Record} (l : List Record) → IsStray r → Next (r ∷ l)
+  pub item_next : {ks : List Record} {t : Forest} → IsItem ks t → (l : List Record) → Next l → Next (ks ++ l)
+  pub way : {ks : List Record} {t : Forest} → IsItem ks t → (b : List Forest) (f : Forest) (l : List Record) → Next l →
+      Leads (item_or_macro false true) b (ks ++ l) f l (f ⧺ t)
+  pub no_end : {ks : List Record} {t : Forest} → IsItem ks t → (l : List Record) → Next l →
+      (next_kind (ks ++ l) == EOF) ≡ false
+  pub no_brace : {ks : List Record} {t : Forest} → IsItem ks t → (l : List Record) → Next l →
+      (next_kind (ks ++ l) == R_CURLY) ≡ false
+  pub starts : {ks : List Record} {t : Forest} → IsItem ks t → (l : List Record) → Next l → StartsFile (ks ++ l)
+
+abbrev Items : Type 1
+Items = List Record → Forest → Type 0
+
+abbrev Nexts : Type 1
+Nexts = List Record → Type 0
+
+mixed_next : {P : Items} {N : Nexts} → AreItems P N → {ks : List Record} {t : Forest} → Mixed P ks t →
+    (l : List Record) → N l → N (ks ++ l)
+mixed_next o no_more l n = n
+mixed_next o (an_item {js = js} d m) l n = rw append_assoc (o.item_next d (js ++ l) (mixed_next o m l n))
+mixed_next o (a_stray {js = js} h m) l n = o.stray_next (js ++ l) h
 
 -- a run goes on after all that is mixed
-behind_mixed : {ks : List Record} {t : Forest} → Mixed ks t →
-    (b : List Forest) (f : Forest) (l : List Record) {q : Spot} {v : Outcome} → no_semicolon l →
+behind_mixed : {P : Items} {N : Nexts} → AreItems P N → {ks : List Record} {t : Forest} → Mixed P ks t →
+    (b : List Forest) (f : Forest) (l : List Record) {q : Spot} {v : Outcome} → N l →
     Runs script_of (items false) (record { rest = ks ++ l; forest = f; below = b }) q v →
     Runs script_of (items false) (record { rest = l; forest = f ⧺ t; below = b }) q v
-behind_mixed no_more b f l s r = r
-behind_mixed (an_item {ks = ks} {js = js} {t = t} {u = u} d m) b f l s r =
-    let n = js ++ l in
-    let i = next_begins n (first d refl) in
-    let x = item_before d false true b f n (mixed_apart m l SEMICOLON refl refl s) in
-    rw (sym (⧺-assoc f t u)) (behind_mixed m b (f ⧺ t) l s (behind_item x (differ begins_item (next_kind
-    (ks ++ n)) EOF i refl) (differ begins_item (next_kind (ks ++ n)) R_CURLY i refl) (rw append_assoc at r)))
-behind_mixed (a_stray {r = z} {u = u} h m) b f l s r =
-    rw (sym (⧺-assoc f (stray_tree z) u)) (behind_mixed m b (f ⧺ stray_tree z) l s (behind_item (stray_way h)
+behind_mixed o no_more b f l s r = r
+behind_mixed o (an_item {ks = ks} {js = js} {t = t} {u = u} d m) b f l s r =
+    let i = mixed_next o m l s in
+    rw (sym (⧺-assoc f t u)) (behind_mixed o m b (f ⧺ t) l s
+    (behind_item (o.way d b f (js ++ l) i) (o.no_end d (js ++ l) i) (o.no_brace d (js ++ l) i) (rw append_assoc at r)))
+behind_mixed o (a_stray {r = z} {u = u} h m) b f l s r =
+    rw (sym (⧺-assoc f (stray_tree z) u)) (behind_mixed o m b (f ⧺ stray_tree z) l s (behind_item (stray_way h)
     (not_so h EOF refl) (not_so h R_CURLY refl) r))
 
 -- so what is made begins with their trees
-items_begin : {ks rest : List Record} {t : Forest} → IsFront ks rest t → (b : List Forest) {q : Spot} {v : Outcome} →
+items_begin : {P : Items} {N : Nexts} → AreItems P N → {ks rest : List Record} {t : Forest} → IsFront P ks rest t →
+    (b : List Forest) {q : Spot} {v : Outcome} →
     Runs script_of (items false) (record { rest = ks ++ rest; forest = none; below = b }) q v →
     (x : Forest) × (q.forest ≡ t ⧺ x)
-items_begin (whole {t = t} m) b r =
-    let k = items_add false (behind_mixed m b none [] refl r) in
+items_begin o (whole {t = t} m) b r =
+    let k = items_add false (behind_mixed o m b none [] o.none_next r) in
     (k.0, k.1 ∙ ap (λ (x : Forest). x ⧺ k.0) (none-⧺ t))
-items_begin (before {rest = rest} {r = z} {t = t} m h) b r =
-    let i = behind_mixed m b none (z ∷ rest) (not_so h SEMICOLON refl) (rw append_assoc at r) in
+items_begin o (before {rest = rest} {r = z} {t = t} m h) b r =
+    let i = behind_mixed o m b none (z ∷ rest) (o.stray_next rest h) (rw append_assoc at r) in
     let k = items_add false (behind_item (stray_way h) (not_so h EOF refl) (not_so h R_CURLY refl) i) in
     (k.0, k.1 ∙ ap (λ (x : Forest). (x ⧺ stray_tree z) ⧺ k.0) (none-⧺ t))
 
-front_apart : {ks rest : List Record} {t : Forest} → IsFront ks rest t → (k : ℕ) → begins_item k ≡ false →
-    is_stray k ≡ false → (EOF == k) ≡ false → (next_kind (ks ++ rest) == k) ≡ false
-front_apart (whole m) k h i e = mixed_apart m [] k h i e
-front_apart (before {rest = rest} {r = z} m s) k h i e = rw append_assoc (mixed_apart m (z ∷ rest) k h i (not_so s k i))
+stray_starts : {r : Record} (l : List Record) → IsStray r → StartsFile (r ∷ l)
+stray_starts l h =
+    record {
+      no_shebang = not_so h SHEBANG refl;
+      no_frontmatter = not_so h FRONTMATTER refl;
+      no_attribute = rw (not_so h INNER_DOC_COMMENT refl, not_so h POUND refl) refl;
+    }
 
-pub contents_begin : {ks rest : List Record} {t : Forest} → IsFront ks rest t →
-    (b : List Forest) {q : Spot} {v : Outcome} →
+mixed_starts : {P : Items} {N : Nexts} → AreItems P N → {ks : List Record} {t : Forest} → Mixed P ks t →
+    (l : List Record) → N l → StartsFile l → StartsFile (ks ++ l)
+mixed_starts o no_more l n s = s
+mixed_starts o (an_item {js = js} d m) l n s = rw append_assoc (o.starts d (js ++ l) (mixed_next o m l n))
+mixed_starts o (a_stray {js = js} h m) l n s = stray_starts (js ++ l) h
+
+front_starts : {P : Items} {N : Nexts} → AreItems P N → {ks rest : List Record} {t : Forest} → IsFront P ks rest t →
+    StartsFile (ks ++ rest)
+front_starts o (whole m) =
+    mixed_starts o m [] o.none_next (record { no_shebang = refl; no_frontmatter = refl; no_attribute = refl })
+front_starts o (before {rest = rest} {r = z} m h) =
+    rw append_assoc (mixed_starts o m (z ∷ rest) (o.stray_next rest h) (stray_starts rest h))
+
+no_attribute_way : {b : List Forest} {rs : List Record} {f : Forest} → holds is_inner_attr_start rs ≡ false →
+    Leads inner_attrs b rs f rs f
+unfolding inner_attrs
+no_attribute_way h = stops (fails h gives) refl
+
+pub contents_begin : {P : Items} {N : Nexts} → AreItems P N → {ks rest : List Record} {t : Forest} →
+    IsFront P ks rest t → (b : List Forest) {q : Spot} {v : Outcome} →
     Runs script_of (mod_contents false) (record { rest = ks ++ rest; forest = none; below = b }) q v →
     (x : Forest) × (q.forest ≡ t ⧺ x)
 unfolding mod_contents
-contents_begin d b {q = q} {v = v} (follows x y) =
-    let s = one_end x (no_inner_attributes (front_apart d POUND refl refl refl)
-    (front_apart d INNER_DOC_COMMENT refl refl refl)) in
-    items_begin d b (subst (λ (o : Spot). Runs script_of (items false) o q v) s.spot y)
+contents_begin o d b {q = q} {v = v} (follows x y) =
+    let s = one_end x (no_attribute_way (front_starts o d).no_attribute) in
+    items_begin o d b (subst (λ (p : Spot). Runs script_of (items false) p q v) s.spot y)
 
 clash : {b : Bool} → b ≡ true → b ≡ false → ⊥
 clash h i = let x : true ≡ false = sym h ∙ i in cc
 
-pub file_begins : {ks rest : List Record} {t : Forest} → IsFront ks rest t →
-    (b : List Forest) {q : Spot} {v : Outcome} →
+pub file_begins : {P : Items} {N : Nexts} → AreItems P N → {ks rest : List Record} {t : Forest} →
+    IsFront P ks rest t → (b : List Forest) {q : Spot} {v : Outcome} →
     Runs script_of source_file (record { rest = ks ++ rest; forest = none; below = b }) q v →
     (x : Forest) × (q.forest ≡ t ⧺ x)
 unfolding source_file
-file_begins d b (passes h x) = absurd (clash h (front_apart d SHEBANG refl refl refl))
-file_begins d b (fails h (passes i x)) = absurd (clash i (front_apart d FRONTMATTER refl refl refl))
-file_begins d b (fails h (fails i x)) = contents_begin d b x
+file_begins o d b (passes h x) = absurd (clash h (front_starts o d).no_shebang)
+file_begins o d b (fails h (passes i x)) = absurd (clash i (front_starts o d).no_frontmatter)
+file_begins o d b (fails h (fails i x)) = contents_begin o d b x

@@ -8,7 +8,8 @@ use Rattle.rap_grammar_core.specs.Laws.{HasOneTree}
 use Rattle.rap_grammar_core.specs.ParsedAgain.{IsBracketed}
 use Rattle.rap_grammar_scripts.specs.declared.rule.Rule.{Rule}
 use Rattle.rap_grammar_scripts.specs.Script.{Script, Spot}
-use Rattle.rap_grammar_core.proofs.Built.{Built, empty, with_leaf, with_node, built, brackets_built, used-built}
+use Rattle.rap_grammar_core.proofs.Built.{Built, built, brackets_built, used-built}
+use Rattle.rap_grammar_core.proofs.Standing.{empty, with_leaf, with_node}
 use Rattle.rap_grammar_core.proofs.Complete.{expression_whole, expression_single, type_whole, type_single, contents_whole, block_whole}
 use Rattle.rap_grammar_core.proofs.Items.{items_whole, item_before, items_of_before, fields_of_before}
 use Rattle.rap_grammar_scripts.proofs.OneEnd.{one_end}

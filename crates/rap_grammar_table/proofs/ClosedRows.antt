@@ -388,6 +388,48 @@ closed_forbidden_12 =
       nodes = λ h. refl;
     }
 
+with_cast_4_taken : CastTaken false 4
+unfolding climbing
+with_cast_4_taken = refl
+
+with_cast_4_so : CastSo false 4
+unfolding climbing
+with_cast_4_so o h =
+    taken false (with_cast_entry false 4) (expr_rule false false 4) (with_cast_entry false 4).rows o h
+    with_cast_4_taken
+
+pub with_cast_4 : EntryChecked table (with_cast_entry false 4)
+with_cast_4 =
+    record {
+      reads =
+          read_by_expr table (with_cast_entry false 4) false false 4 (something ∷ [])
+          (with_cast_4_so (reads_rows nesting table) (any_so false));
+      begins = refl;
+      followed = refl;
+      nodes = λ h. refl;
+    }
+
+with_cast_5_taken : CastTaken false 5
+unfolding climbing
+with_cast_5_taken = refl
+
+with_cast_5_so : CastSo false 5
+unfolding climbing
+with_cast_5_so o h =
+    taken false (with_cast_entry false 5) (expr_rule false false 5) (with_cast_entry false 5).rows o h
+    with_cast_5_taken
+
+pub with_cast_5 : EntryChecked table (with_cast_entry false 5)
+with_cast_5 =
+    record {
+      reads =
+          read_by_expr table (with_cast_entry false 5) false false 5 (something ∷ [])
+          (with_cast_5_so (reads_rows nesting table) (any_so false));
+      begins = refl;
+      followed = refl;
+      nodes = λ h. refl;
+    }
+
 with_cast_6_taken : CastTaken false 6
 unfolding climbing
 with_cast_6_taken = refl
@@ -530,6 +572,48 @@ with_cast_12 =
       reads =
           read_by_expr table (with_cast_entry false 12) false false 12 (something ∷ [])
           (with_cast_12_so (reads_rows nesting table) (any_so false));
+      begins = refl;
+      followed = refl;
+      nodes = λ h. refl;
+    }
+
+with_cast_forbidden_4_taken : CastTaken true 4
+unfolding climbing
+with_cast_forbidden_4_taken = refl
+
+with_cast_forbidden_4_so : CastSo true 4
+unfolding climbing
+with_cast_forbidden_4_so o h =
+    taken true (with_cast_entry true 4) (expr_rule true false 4) (with_cast_entry true 4).rows o h
+    with_cast_forbidden_4_taken
+
+pub with_cast_forbidden_4 : EntryChecked table (with_cast_entry true 4)
+with_cast_forbidden_4 =
+    record {
+      reads =
+          read_by_expr table (with_cast_entry true 4) true false 4 (something ∷ [])
+          (with_cast_forbidden_4_so (reads_rows nesting table) (any_so true));
+      begins = refl;
+      followed = refl;
+      nodes = λ h. refl;
+    }
+
+with_cast_forbidden_5_taken : CastTaken true 5
+unfolding climbing
+with_cast_forbidden_5_taken = refl
+
+with_cast_forbidden_5_so : CastSo true 5
+unfolding climbing
+with_cast_forbidden_5_so o h =
+    taken true (with_cast_entry true 5) (expr_rule true false 5) (with_cast_entry true 5).rows o h
+    with_cast_forbidden_5_taken
+
+pub with_cast_forbidden_5 : EntryChecked table (with_cast_entry true 5)
+with_cast_forbidden_5 =
+    record {
+      reads =
+          read_by_expr table (with_cast_entry true 5) true false 5 (something ∷ [])
+          (with_cast_forbidden_5_so (reads_rows nesting table) (any_so true));
       begins = refl;
       followed = refl;
       nodes = λ h. refl;

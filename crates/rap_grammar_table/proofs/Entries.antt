@@ -21,8 +21,8 @@ all_rows f (r ∷ rs) = f r && all_rows f rs
 same_some : (r row : Items) → Some r ≡ Some row → r ≡ row
 same_some r row e = cc
 
-of_all : (f : Items → Bool) (rs : List Items) (n : ℕ) (row : Items) → all_rows f rs ≡ true → row_at n rs ≡ Some row →
-    f row ≡ true
+pub of_all : (f : Items → Bool) (rs : List Items) (n : ℕ) (row : Items) → all_rows f rs ≡ true →
+    row_at n rs ≡ Some row → f row ≡ true
 of_all f [] n row h e = absurd cc
 of_all f (r ∷ rs) zero row h e =
     subst (λ (x : Items). f x ≡ true) (same_some r row e) (and_left (f r) (all_rows f rs) h)

@@ -351,3 +351,9 @@ sees_left (x ∷ p) q rs (later_way s) = later_way (sees_left p q rs s)
 pub sees_right : (p q : List (List Place)) (rs : List Record) → Sees q rs → Sees (p ++ q) rs
 sees_right [] q rs s = s
 sees_right (x ∷ p) q rs s = later_way (sees_right p q rs s)
+
+-- a test that is known not to hold
+pub never_so : (h : Test) (g : List (List Place)) (rs : List Record) → evaluate_all h g ≡ never → Sees g rs →
+    holds h rs ≡ false
+never_so h g rs e s =
+    not_true (holds h rs) (subst (λ (a : Answer). agrees a (holds h rs) ≡ true) e (agrees_all h g rs s))

@@ -4,7 +4,7 @@ use Rattle.rap_events.proofs.Truth.{and_left, and_right}
 use Rattle.rap_grammar_scripts.specs.Script.{something}
 use Rattle.rap_grammar_scripts.specs.declared.rule.Rule.{Rule}
 use Rattle.rap_grammar_scripts.specs.declared.rule.Rule.TheVariants as knot
-use Rattle.rap_grammar_table.specs.ExprRows.{condition_entry, expr_entry, guard_entry, open_entry, range_end_entry, range_read_by}
+use Rattle.rap_grammar_table.specs.ExprRows.{assigned_entry, condition_entry, expr_entry, guard_entry, open_entry, range_end_entry, range_read_by}
 use Rattle.rap_grammar_table.specs.Notation.{Entry}
 use Rattle.rap_grammar_table.specs.Refusal.{accepted}
 use Rattle.rap_grammar_table.specs.Rows.{table}
@@ -121,6 +121,31 @@ conditions =
           read_by_expr table condition_entry true false 1 (something ∷ [])
           (in_parts (is_read table condition_entry (expr_rule true false 1)) 2 condition_entry.rows
           (conditions_first (reads_rows nesting table) (any_so true)) conditions_others);
+      begins = refl;
+      followed = refl;
+      nodes = λ h. refl;
+    }
+
+assigneds_taken : FirstTaken 2 assigned_entry (expr_rule true false 1)
+unfolding climbing
+assigneds_taken = refl
+
+assigneds_first : FirstSo 2 true assigned_entry (expr_rule true false 1)
+unfolding climbing
+assigneds_first o h =
+    taken true assigned_entry (expr_rule true false 1) (taking 2 assigned_entry.rows) o h assigneds_taken
+
+assigneds_others : OthersSo 2 assigned_entry (expr_rule true false 1)
+unfolding scripts tests
+assigneds_others = refl
+
+pub assigneds : EntryChecked table assigned_entry
+assigneds =
+    record {
+      reads =
+          read_by_expr table assigned_entry true false 1 (something ∷ [])
+          (in_parts (is_read table assigned_entry (expr_rule true false 1)) 2 assigned_entry.rows
+          (assigneds_first (reads_rows nesting table) (any_so true)) assigneds_others);
       begins = refl;
       followed = refl;
       nodes = λ h. refl;

@@ -173,7 +173,7 @@ abbrev as_stmt : Part → Bool
 as_stmt a =
     is_accepted (reads_row table (table.follows Stmt) (script_of (knot.Stmt semicolon.Required)) (something ∷ []) (row a))
 
-braced_value : as_stmt (let_else Expr) ≡ false
+braced_value : as_stmt (let_else Expr (t SEMICOLON)) ≡ false
 unfolding scripts tests
 braced_value = refl
 

@@ -7,12 +7,13 @@ use Rattle.rap_grammar_table.specs.Known.{Sees}
 use Rattle.rap_grammar_table.specs.Rows.{table, entries}
 use Rattle.rap_grammar_table.specs.Table.{Beside, Derives, one, cat}
 use Rattle.rap_grammar_table.proofs.AttributeRows.{attributes, conditions as cfg_conditions, macro_paths, metas, token_trees, inner_attributes}
-use Rattle.rap_grammar_table.proofs.ClosedRows.{closed_4, closed_5, closed_6, closed_7, closed_8, closed_9, closed_10, closed_11, closed_12, closed_forbidden_4, closed_forbidden_5, closed_forbidden_6, closed_forbidden_7, closed_forbidden_8, closed_forbidden_9, closed_forbidden_10, closed_forbidden_11, closed_forbidden_12, with_cast_6, with_cast_7, with_cast_8, with_cast_9, with_cast_10, with_cast_11, with_cast_12, with_cast_forbidden_6, with_cast_forbidden_7, with_cast_forbidden_8, with_cast_forbidden_9, with_cast_forbidden_10, with_cast_forbidden_11, with_cast_forbidden_12}
+use Rattle.rap_grammar_table.proofs.ClosedRows.{closed_4, closed_5, closed_6, closed_7, closed_8, closed_9, closed_10, closed_11, closed_12, closed_forbidden_4, closed_forbidden_5, closed_forbidden_6, closed_forbidden_7, closed_forbidden_8, closed_forbidden_9, closed_forbidden_10, closed_forbidden_11, closed_forbidden_12, with_cast_4, with_cast_5, with_cast_forbidden_4, with_cast_forbidden_5, with_cast_6, with_cast_7, with_cast_8, with_cast_9, with_cast_10, with_cast_11, with_cast_12, with_cast_forbidden_6, with_cast_forbidden_7, with_cast_forbidden_8, with_cast_forbidden_9, with_cast_forbidden_10, with_cast_forbidden_11, with_cast_forbidden_12}
 use Rattle.rap_grammar_table.proofs.Entries.{none_left, ◌then◌, checked_of}
 use Rattle.rap_grammar_table.proofs.ExprRows.{atoms, atoms_forbidden, arg_lists, atom_paths, brace_trees, cast_paths, cast_types, else_prefixed, else_values, name_exprs, open_atoms_so, open_prefixed, operands, operands_forbidden, plain_atoms_so, prefixed, prefixed_forbidden, round_trees, stmt_operands, stmt_prefixed}
+use Rattle.rap_grammar_table.proofs.FrontRows.{arm_lists, assoc_lists, extern_lists, field_lists, front_stmts, item_lists, last_stmts, record_value_rows, use_lists, value_lists, variant_lists}
 use Rattle.rap_grammar_table.proofs.GenericRows.{arguments, generic_params, generics, predicates, wheres}
 use Rattle.rap_grammar_table.proofs.ItemRows.{fn_params, items, record_fields_so, variants, visibilities, use_trees}
-use Rattle.rap_grammar_table.proofs.OperatorRows.{conditions, expressions, guards, open_4, open_5, range_ends, range_ends_forbidden}
+use Rattle.rap_grammar_table.proofs.OperatorRows.{assigneds, conditions, expressions, guards, open_4, open_5, range_ends, range_ends_forbidden}
 use Rattle.rap_grammar_table.proofs.PatternRows.{param_patterns, pattern_paths, patterns, rest_patterns, single_patterns}
 use Rattle.rap_grammar_table.proofs.Sound.{Checked, Known, claim}
 use Rattle.rap_grammar_table.proofs.StmtRows.{arms, block_stmts, blocks, empty_stmts, ending_blocks, ifs, last_arms, macro_tails, stmt_blocks, stmt_exprs_so, stmt_lists, stmts, tails, with_blocks_so}
@@ -39,7 +40,10 @@ checked =
     with_cast_6 then with_cast_7 then with_cast_8 then with_cast_9 then with_cast_10 then with_cast_11 then with_cast_12 then
     with_cast_forbidden_6 then with_cast_forbidden_7 then with_cast_forbidden_8 then with_cast_forbidden_9 then
     with_cast_forbidden_10 then with_cast_forbidden_11 then with_cast_forbidden_12 then empty_stmts then macro_tails then
-    plain_atoms_so then else_values then else_prefixed then none_left)
+    plain_atoms_so then else_values then else_prefixed then field_lists then variant_lists then use_lists then
+    item_lists then assoc_lists then extern_lists then value_lists then arm_lists then front_stmts then last_stmts then
+    record_value_rows then with_cast_4 then with_cast_5 then with_cast_forbidden_4 then with_cast_forbidden_5 then
+    assigneds then none_left)
 
 -- so what the table derives is what the scripts make
 pub complete : {given : Beside} → Known table given → (c : ℕ) {ks : List Record} {y : Forest} →

@@ -1,5 +1,5 @@
 -- The categories of the grammar, by their numbers, and what stands in many of their rows.
-use Rattle.std.specs.Prelude.{ℕ, ◌+◌, Bool, true, false, List, [], ◌∷◌, ◌++◌}
+use Rattle.std.specs.Prelude.{ℕ, ◌+◌, nat_lt, Bool, true, false, List, [], ◌∷◌, ◌++◌}
 use Rattle.rap_base.specs.NodeKind.{NAME, NAME_REF, LIFETIME, ABI, LITERAL, PREFIX_EXPR, PATH_EXPR, PATH, PATH_SEGMENT, CONST_ARG, MACRO_CALL}
 use Rattle.rap_base.specs.TokenKind.{EOF, IDENT, SEMICOLON, COMMA, COLON, COLON2, EQ, L_PAREN, R_PAREN, L_BRACK, R_BRACK, L_CURLY, R_CURLY, L_ANGLE, R_ANGLE, AMP, STAR, BANG, MINUS, PIPE, PLUS, TILDE, QUESTION, UNDERSCORE, POUND, OUTER_DOC_COMMENT, LIFETIME_IDENT, STRING, TRUE_KW, FALSE_KW, INT_NUMBER, FLOAT_NUMBER, BYTE, CHAR, BYTE_STRING, C_STRING, AS_KW, ASYNC_KW, CONST_KW, CRATE_KW, DYN_KW, EXTERN_KW, FN_KW, FOR_KW, IMPL_KW, SELF_KW, SELF_TYPE_KW, SUPER_KW, UNSAFE_KW, USE_KW, WHERE_KW}
 use Rattle.rap_grammar_table.specs.Known.{Place, behind}
@@ -251,9 +251,15 @@ Open power = 87 + power
 abbrev pub EndingBlock : ℕ
 EndingBlock = 93
 
--- an expression of operators of at least this power, from 6 to 12, that may end with a cast
+-- an expression of operators of at least this power, from 4 to 12, that may end with a cast
+abbrev pub number_if : Bool → ℕ → ℕ → ℕ
+number_if true a b = a
+number_if false a b = b
+
 abbrev pub WithCast : Bool → ℕ → ℕ
-WithCast forbid power = where_forbidden forbid (88 + power) (95 + power)
+WithCast forbid power =
+    number_if (nat_lt power 6) (where_forbidden forbid (120 + power) (122 + power))
+    (where_forbidden forbid (88 + power) (95 + power))
 
 -- a semicolon alone; the value at the end of a macro's statements
 abbrev pub EmptyStmt : ℕ
@@ -271,6 +277,47 @@ ElseValue = 111
 
 abbrev pub ElsePrefixed : ℕ
 ElsePrefixed = 112
+
+-- What is parsed again from its own braces, beside blocks and token trees: the fields of a struct, the variants of an
+-- enum, the trees of a `use`, items under each of three kinds, the fields of a record, the arms of a `match`.
+abbrev pub RecordFields : ℕ
+RecordFields = 113
+
+abbrev pub Variants : ℕ
+Variants = 114
+
+abbrev pub UseTrees : ℕ
+UseTrees = 115
+
+abbrev pub ItemList : ℕ
+ItemList = 116
+
+abbrev pub AssocItems : ℕ
+AssocItems = 117
+
+abbrev pub ExternItems : ℕ
+ExternItems = 118
+
+abbrev pub RecordValues : ℕ
+RecordValues = 119
+
+abbrev pub MatchArms : ℕ
+MatchArms = 120
+
+-- a statement without a semicolon at the front of an input, before a semicolon or a comma, and before an end
+abbrev pub FrontStmt : ℕ
+FrontStmt = 121
+
+abbrev pub LastStmt : ℕ
+LastStmt = 122
+
+-- a field of a record with its value
+abbrev pub RecordValue : ℕ
+RecordValue = 123
+
+-- what is assigned in a condition
+abbrev pub Assigned : ℕ
+Assigned = 128
 
 -- names
 abbrev pub name : Part

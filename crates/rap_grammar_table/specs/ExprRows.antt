@@ -1,5 +1,5 @@
 -- The rows of expressions.
-use Rattle.std.specs.Prelude.{ℕ, ◌==◌, ◌&&◌, ◌||◌, nat_lt, Bool, true, false, List, [], ◌∷◌, ◌++◌}
+use Rattle.std.specs.Prelude.{ℕ, ◌==◌, ◌&&◌, ◌||◌, Bool, true, false, List, [], ◌∷◌, ◌++◌}
 use Rattle.rap_base.specs.NodeKind.{ARG_LIST, ARRAY_EXPR, ARRAY_TYPE, AWAIT_EXPR, BECOME_EXPR, BLOCK_EXPR, BREAK_EXPR, CALL_EXPR, CLOSURE_EXPR, CONST_ARG, CONTINUE_EXPR, FIELD_EXPR, GENERIC_ARG_LIST, INDEX_EXPR, INFER_TYPE, LET_EXPR, MACRO_CALL, MACRO_EXPR, METHOD_CALL_EXPR, NAME_REF, NEVER_TYPE, PARAM, PARAM_LIST, PAREN_EXPR, PAREN_TYPE, PATH, PATH_EXPR, PATH_SEGMENT, PATH_TYPE, PREFIX_EXPR, PTR_TYPE, RANGE_EXPR, RECORD_EXPR, RECORD_EXPR_FIELD, RECORD_EXPR_FIELD_LIST, REF_EXPR, REF_TYPE, RETURN_EXPR, SLICE_TYPE, TRY_EXPR, TUPLE_EXPR, TUPLE_TYPE, UNDERSCORE_EXPR, YIELD_EXPR}
 use Rattle.rap_base.specs.TokenKind.{IDENT, SEMICOLON, COMMA, COLON, COLON2, EQ, L_PAREN, R_PAREN, L_BRACK, R_BRACK, L_CURLY, R_CURLY, L_ANGLE, R_ANGLE, AMP, STAR, BANG, MINUS, PIPE, DOT, DOT2, QUESTION, UNDERSCORE, LIFETIME_IDENT, INT_NUMBER, ASYNC_KW, AWAIT_KW, BECOME_KW, BREAK_KW, CONST_KW, CONTINUE_KW, ELSE_KW, EXTERN_KW, FN_KW, FOR_KW, IF_KW, LET_KW, LOOP_KW, MATCH_KW, MOVE_KW, MUT_KW, RAW_KW, REF_KW, RETURN_KW, TRY_KW, UNSAFE_KW, WHILE_KW, YIELD_KW}
 use Rattle.rap_events.specs.OperatorTable.{operators}
@@ -8,11 +8,11 @@ use Rattle.rap_grammar_scripts.specs.Words.{next_is}
 use Rattle.rap_grammar_scripts.specs.declared.rule.Rule.{Rule}
 use Rattle.rap_grammar_scripts.specs.declared.rule.Rule.TheVariants as knot
 use Rattle.rap_grammar_table.specs.AttributeRows.{tree_in}
-use Rattle.rap_grammar_table.specs.Categories.{Ty, PlainTy, Argument, Expr, PlainAtom, ElsePrefixed, StmtList, Pattern, SinglePattern, AtomPath, RoundTree, ArgList, NameExpr, CastTy, CastPath, WithBlock, Atom, Operand, Prefixed, StmtOperand, StmtPrefixed, OpenAtom, OpenPrefixed, Closed, attrs, global_heads, lifetime, literal, literals, name_ref, path_names}
+use Rattle.rap_grammar_table.specs.Categories.{Ty, PlainTy, Argument, Expr, PlainAtom, ElsePrefixed, StmtList, Pattern, SinglePattern, AtomPath, RoundTree, ArgList, NameExpr, CastTy, CastPath, WithBlock, Atom, Operand, Prefixed, StmtOperand, StmtPrefixed, OpenAtom, OpenPrefixed, Closed, RecordValue, attr_heads, attrs, global_heads, lifetime, literal, literals, name_ref, path_names, Assigned, WithCast}
 use Rattle.rap_grammar_table.specs.Known.{Place, behind}
 use Rattle.rap_grammar_table.specs.Look.{anything}
 use Rattle.rap_grammar_table.specs.Notation.{Part, ◌⊳◌, t, ts, weak, op, c, node, opt, either, commas, commas_last, alone, guard, turn, around, Entry, text, rows_of, of_kinds, of_names, touching, colons}
-use Rattle.rap_grammar_table.specs.Operators.{atom_kinds, block_kinds, operand_kinds, open_kinds, operator_kinds, end_kinds, arrow, expr_ends, operand_ends, closed_follows, cast_follows, operand_follows, atom_follows, path_follows, path_heads, places_in, if_kind, binary, closed_turns, cast_turns, range_turn, range_with_end, and_open, all_turns}
+use Rattle.rap_grammar_table.specs.Operators.{atom_kinds, block_kinds, operand_kinds, open_kinds, operator_kinds, end_kinds, arrow, expr_ends, operand_ends, closed_follows, cast_follows, operand_follows, atom_follows, path_follows, path_heads, places_in, assign_turns, binary_cast, closed_turns, cast_turns, range_turn, range_with_end, and_open, all_turns}
 use Rattle.rap_grammar_table.specs.TypeRows.{anchored_path, expr_path_rows, fn_pointer, global_path, named_paths, plain_read_by, ret}
 use Rattle.rap_grammar_table.specs.Ways.{same_flag}
 
@@ -106,12 +106,18 @@ record_field =
     (attrs ⊳
     either (name_ref (IDENT ∷ INT_NUMBER ∷ []) ⊳ t COLON ⊳ guard (next_is COLON) ⊳ c Expr) (c NameExpr))
 
-abbrev pub record_literal : Part
-record_literal =
-    node RECORD_EXPR
-    (c AtomPath ⊳
+abbrev pub record_value_entry : Entry
+record_value_entry =
+    text (record_field ∷ []) ((of_kinds (IDENT ∷ INT_NUMBER ∷ []) ∷ []) ∷ attr_heads)
+    ((of_kinds (COMMA ∷ R_CURLY ∷ []) ∷ []) ∷ [])
+
+abbrev pub record_values : Part
+record_values =
     node RECORD_EXPR_FIELD_LIST
-    (t L_CURLY ⊳ commas_last record_field (either record_field (op DOT2 ⊳ opt (c Expr))) ⊳ t R_CURLY))
+    (t L_CURLY ⊳ commas_last (c RecordValue) (either (c RecordValue) (op DOT2 ⊳ opt (c Expr))) ⊳ t R_CURLY)
+
+abbrev pub record_literal : Part
+record_literal = node RECORD_EXPR (c AtomPath ⊳ record_values)
 
 -- expressions without an operator, that end by themselves and with no block
 abbrev pub plain_atoms : List Part
@@ -305,8 +311,7 @@ kinds_only kinds = (of_kinds kinds ∷ []) ∷ []
 abbrev pub closed_entry : Bool → ℕ → Entry
 closed_entry forbid power =
     nodes_of (by_expr forbid false power (something ∷ []))
-    ((c (Operand forbid) ⊳
-    around 12 (if_kind (nat_lt power 6) (cast_turns forbid power) (closed_turns forbid power))) ∷ [])
+    ((c (Operand forbid) ⊳ around 12 (closed_turns forbid power)) ∷ [])
     (kinds_only operand_kinds) (closed_follows forbid power)
 
 -- the same with a cast at the end, before operators that begin otherwise than generic arguments
@@ -360,18 +365,26 @@ expr_entry =
 -- Conditions: with `let` alone, or before `&&` and `||`; the guard of an arm may begin so too.
 abbrev pub let_chain : Bool → Part
 let_chain forbid =
-    node LET_EXPR (t LET_KW ⊳ c Pattern ⊳ t EQ ⊳ c (Closed forbid 5)) ⊳
-    around 4 (binary forbid 4 ⊳ binary forbid 3)
+    node LET_EXPR (t LET_KW ⊳ c Pattern ⊳ t EQ ⊳ c (WithCast forbid 5)) ⊳
+    around 4 (binary_cast forbid 4 ⊳ binary_cast forbid 3)
 
 abbrev pub condition_firsts : List (List Place)
 condition_firsts = kinds_only (LET_KW ∷ operand_kinds) ++ (touching DOT ∷ of_kinds (DOT ∷ []) ∷ []) ∷ []
 
+abbrev pub without_let : List Part
+without_let =
+    (c (Operand true) ⊳ around 12 (cast_turns true 3 ⊳ range_turn true ⊳ assign_turns Assigned)) ∷ open_range true ∷
+    ranges_to true
+
 abbrev pub condition_entry : Entry
 condition_entry =
-    nodes_of (by_expr true false 1 (something ∷ []))
-    ((c (Operand true) ⊳ around 12 (cast_turns true 3 ⊳ range_turn true)) ∷ open_range true ∷
-    (ranges_to true ++ let_chain true ∷ []))
-    condition_firsts (expr_ends true)
+    nodes_of (by_expr true false 1 (something ∷ [])) (without_let ++ let_chain true ∷ []) condition_firsts
+    (expr_ends true)
+
+abbrev pub assigned_entry : Entry
+assigned_entry =
+    nodes_of (by_expr true false 1 (something ∷ [])) without_let
+    (kinds_only operand_kinds ++ (touching DOT ∷ of_kinds (DOT ∷ []) ∷ []) ∷ []) (expr_ends true)
 
 abbrev pub guard_entry : Entry
 guard_entry =

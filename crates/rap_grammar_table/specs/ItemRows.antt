@@ -114,19 +114,23 @@ variant_entry =
     (attrs ⊳ name ⊳ alone (opt (either record_fields tuple_fields)) ⊳ alone (opt (t EQ ⊳ node CONST_ARG (c Expr)))) ∷ [])
     ((of_kinds (IDENT ∷ []) ∷ []) ∷ attr_heads) ((of_kinds (COMMA ∷ R_CURLY ∷ []) ∷ []) ∷ [])
 
+abbrev pub variant_list : Part
+variant_list = node VARIANT_LIST (t L_CURLY ⊳ commas (c Variant) ⊳ t R_CURLY)
+
 abbrev pub enum_item : Part
 enum_item =
     node ENUM
-    (attrs ⊳ opt_visibility ⊳ t ENUM_KW ⊳ name ⊳ opt_generics ⊳ opt (c Where) ⊳
-    node VARIANT_LIST
-    (t L_CURLY ⊳
-    commas (c Variant) ⊳ t R_CURLY))
+    (attrs ⊳ opt_visibility ⊳ t ENUM_KW ⊳ name ⊳ opt_generics ⊳ opt (c Where) ⊳ variant_list)
+
+-- items in braces, under a node of this kind
+abbrev pub items_under : ℕ → Part
+items_under kind = node kind (t L_CURLY ⊳ inner_attrs ⊳ many (c Item) ⊳ t R_CURLY)
 
 abbrev pub other_items : List Part
 other_items =
     node MODULE
     (attrs ⊳ opt_visibility ⊳ t MOD_KW ⊳ name ⊳
-    either (t SEMICOLON) (node ITEM_LIST (t L_CURLY ⊳ inner_attrs ⊳ many (c Item) ⊳ t R_CURLY)))
+    either (t SEMICOLON) (items_under ITEM_LIST))
     ∷ node TYPE_ALIAS
     (attrs ⊳ opt_visibility ⊳ opt (weak DEFAULT_KW) ⊳ t TYPE_KW ⊳ name ⊳ opt_generics ⊳ opt (t COLON ⊳ c Bounds) ⊳
     opt (c Where) ⊳
@@ -171,7 +175,7 @@ import_items =
 -- Traits, implementations and blocks of foreign items. After an `impl` no type begins with `<`, `(`, `!`,
 -- `impl` or `const`.
 abbrev pub assoc_list : Part
-assoc_list = node ASSOC_ITEM_LIST (t L_CURLY ⊳ inner_attrs ⊳ many (c Item) ⊳ t R_CURLY)
+assoc_list = items_under ASSOC_ITEM_LIST
 
 abbrev pub impl_params : Part
 impl_params = opt (guard (negated is_impl_params_start) ⊳ c Generics)
@@ -190,8 +194,7 @@ trait_items =
     (attrs ⊳ opt (t UNSAFE_KW) ⊳ t IMPL_KW ⊳ impl_params ⊳ opt (t CONST_KW) ⊳ opt (t BANG) ⊳ c TraitRef ⊳ t FOR_KW ⊳
     guard (next_is IMPL_KW) ⊳ c Ty ⊳ opt (c Where) ⊳ assoc_list)
     ∷ node EXTERN_BLOCK
-    (attrs ⊳ opt (t UNSAFE_KW) ⊳ abi ⊳
-    node EXTERN_ITEM_LIST (t L_CURLY ⊳ inner_attrs ⊳ many (c Item) ⊳ t R_CURLY))
+    (attrs ⊳ opt (t UNSAFE_KW) ⊳ abi ⊳ items_under EXTERN_ITEM_LIST)
     ∷ []
 
 -- Macros, and calls of them: behind other brackets than braces stands a semicolon.
@@ -241,3 +244,7 @@ abbrev pub item_entry : Entry
 item_entry =
     read_text item_read_by (struct_items ++ other_items ++ import_items ++ trait_items ++ macro_items) item_heads
     ((of_kinds (EOF ∷ R_CURLY ∷ []) ∷ []) ∷ item_heads)
+
+-- what stands in braces, as a category of its own
+abbrev pub in_braces : Part → Entry
+in_braces a = text (a ∷ []) ((of_kinds (L_CURLY ∷ []) ∷ []) ∷ []) anything

@@ -1,12 +1,16 @@
+pub mod Again
 pub mod AttributeRows
 pub mod Built
 pub mod Categories
 pub mod ExprRows
+pub mod Fronts
 pub mod GenericRows
 pub mod Good
+pub mod Inclusion
 pub mod ItemRows
 pub mod Known
 pub mod Lasts
+pub mod Laws
 pub mod Look
 pub mod Narrow
 pub mod Notation

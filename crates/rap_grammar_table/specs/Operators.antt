@@ -116,7 +116,7 @@ operand_ends true = expr_ends true
 operand_ends false = arrow ∷ expr_ends false
 
 abbrev pub closed_follows : Bool → ℕ → List (List Place)
-closed_follows forbid power = operand_ends forbid ++ places_in (not (nat_lt power 6)) power operators
+closed_follows forbid power = operand_ends forbid ++ places_in true power operators
 
 abbrev pub as_place : List Place
 as_place = of_kinds (AS_KW ∷ []) ∷ []
@@ -166,7 +166,7 @@ abbrev pub up_from : ℕ → List ℕ
 up_from power = from_on power (up_to 12)
 
 abbrev pub all_from : ℕ → List ℕ
-all_from power = 13 ∷ (from_on (power + 20) (31 ∷ 30 ∷ 29 ∷ 28 ∷ 27 ∷ 26 ∷ 25 ∷ []) ++ up_from power)
+all_from power = 13 ∷ (from_on (power + 20) (31 ∷ 30 ∷ 29 ∷ 28 ∷ 27 ∷ 26 ∷ 25 ∷ 24 ∷ 23 ∷ []) ++ up_from power)
 
 abbrev pub binary : Bool → ℕ → Part
 binary forbid power = turn (all_from power) BIN_EXPR (operator false power ⊳ c (Closed forbid (suc power))) power
@@ -194,7 +194,7 @@ closed_turns forbid power =
 abbrev pub cast_turns : Bool → ℕ → Part
 cast_turns forbid power =
     turn (12 ∷ 13 ∷ []) CAST_EXPR (t AS_KW ⊳ c CastTy) 13 ⊳ closed_turns forbid power ⊳
-    each_power (binary_cast forbid) (from_on power (11 ∷ 10 ∷ 9 ∷ 8 ∷ 7 ∷ 6 ∷ 5 ∷ [])) ⊳
+    each_power (binary_cast forbid) (from_on power (11 ∷ 10 ∷ 9 ∷ 8 ∷ 7 ∷ 6 ∷ 5 ∷ 4 ∷ 3 ∷ [])) ⊳
     each_power (angled_cast forbid) (from_on power (9 ∷ 5 ∷ []))
 
 -- the end of a range; where no record literal may stand, it does not begin with a `{`
@@ -214,7 +214,11 @@ and_open = turn (all_from 4) BIN_EXPR (op AMP2 ⊳ c (Open 5)) 0
 abbrev pub or_open : Part
 or_open = turn (all_from 3) BIN_EXPR (op PIPE2 ⊳ c (Open 4)) 0
 
+-- an assignment, of what this category has
+abbrev pub assign_turns : ℕ → Part
+assign_turns category =
+    turn (all_from 1) BIN_EXPR (operator false 1 ⊳ c category) 0 ⊳
+    turn (up_from 1) BIN_EXPR (operator true 1 ⊳ c category) 0
+
 abbrev pub all_turns : Part
-all_turns =
-    cast_turns false 3 ⊳ range_turn false ⊳ and_open ⊳ or_open ⊳
-    turn (all_from 1) BIN_EXPR (operator false 1 ⊳ c Expr) 0 ⊳ turn (up_from 5) BIN_EXPR (operator true 1 ⊳ c Expr) 0
+all_turns = cast_turns false 3 ⊳ range_turn false ⊳ and_open ⊳ or_open ⊳ assign_turns Expr

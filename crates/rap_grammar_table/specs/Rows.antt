@@ -1,12 +1,13 @@
 -- The table of the grammar.
 use Rattle.std.specs.Prelude.{true, false, List, [], ◌∷◌}
+use Rattle.rap_base.specs.NodeKind.{ITEM_LIST, ASSOC_ITEM_LIST, EXTERN_ITEM_LIST}
 use Rattle.rap_grammar_table.specs.AttributeRows.{attr_entry, cfg_entry, inner_attr_entry, macro_path_entry, meta_entry, token_tree_entry}
-use Rattle.rap_grammar_table.specs.ExprRows.{arg_list_entry, atom_entry, atom_path_entry, brace_tree_entry, cast_path_entry, cast_type_entry, closed_entry, condition_entry, else_prefixed_entry, else_value_entry, expr_entry, guard_entry, name_expr_entry, open_atom_entry, open_entry, open_prefixed_entry, operand_entry, plain_atom_entry, prefixed_entry, range_end_entry, round_tree_entry, stmt_operand_entry, stmt_prefixed_entry, with_cast_entry}
+use Rattle.rap_grammar_table.specs.ExprRows.{arg_list_entry, atom_entry, atom_path_entry, brace_tree_entry, cast_path_entry, cast_type_entry, closed_entry, condition_entry, else_prefixed_entry, else_value_entry, expr_entry, guard_entry, name_expr_entry, open_atom_entry, open_entry, open_prefixed_entry, operand_entry, plain_atom_entry, prefixed_entry, range_end_entry, record_value_entry, record_values, round_tree_entry, stmt_operand_entry, stmt_prefixed_entry, with_cast_entry, assigned_entry}
 use Rattle.rap_grammar_table.specs.GenericRows.{argument_entry, generics_entry, param_entry, predicate_entry, where_entry}
-use Rattle.rap_grammar_table.specs.ItemRows.{field_entry, fn_params_entry, item_entry, use_tree_entry, variant_entry, visibility_entry}
+use Rattle.rap_grammar_table.specs.ItemRows.{field_entry, fn_params_entry, item_entry, in_braces, items_under, record_fields, use_list, use_tree_entry, variant_entry, variant_list, visibility_entry}
 use Rattle.rap_grammar_table.specs.Notation.{Entry, table_of}
 use Rattle.rap_grammar_table.specs.PatternRows.{param_pattern_entry, pattern_entry, path_entry as path_entry_of_patterns, rest_entry, single_entry}
-use Rattle.rap_grammar_table.specs.StmtRows.{arm_entry, block_entry, block_stmt_entry, empty_stmt_entry, ending_block_entry, if_entry, last_arm_entry, macro_tail_entry, stmt_block_entry, stmt_entry, stmt_expr_entry, stmt_list_entry, tail_entry, with_block_entry}
+use Rattle.rap_grammar_table.specs.StmtRows.{arm_entry, block_entry, block_stmt_entry, empty_stmt_entry, ending_block_entry, front_stmt_entry, if_entry, last_arm_entry, last_stmt_entry, macro_tail_entry, match_arms, stmt_block_entry, stmt_entry, stmt_expr_entry, stmt_list_entry, tail_entry, with_block_entry}
 use Rattle.rap_grammar_table.specs.Table.{Table}
 use Rattle.rap_grammar_table.specs.TypeRows.{anchor_entry, anchored_path_entry, args_entry, before_plus_entry, bound_entry, bounds_entry, expr_path_entry, simple_path_entry, trait_ref_entry, fn_pointer_params_entry, global_path_entry, param_name_entry, path_before_plus_entry, path_entry, plain_entry, symbol_entry, type_entry, use_path_entry}
 
@@ -33,7 +34,11 @@ entries =
     with_cast_entry false 8 ∷ with_cast_entry false 9 ∷ with_cast_entry false 10 ∷ with_cast_entry false 11 ∷
     with_cast_entry false 12 ∷ with_cast_entry true 6 ∷ with_cast_entry true 7 ∷ with_cast_entry true 8 ∷
     with_cast_entry true 9 ∷ with_cast_entry true 10 ∷ with_cast_entry true 11 ∷ with_cast_entry true 12 ∷
-    empty_stmt_entry ∷ macro_tail_entry ∷ plain_atom_entry ∷ else_value_entry ∷ else_prefixed_entry ∷ []
+    empty_stmt_entry ∷ macro_tail_entry ∷ plain_atom_entry ∷ else_value_entry ∷ else_prefixed_entry ∷
+    in_braces record_fields ∷ in_braces variant_list ∷ in_braces use_list ∷ in_braces (items_under ITEM_LIST) ∷
+    in_braces (items_under ASSOC_ITEM_LIST) ∷ in_braces (items_under EXTERN_ITEM_LIST) ∷ in_braces record_values ∷
+    in_braces match_arms ∷ front_stmt_entry ∷ last_stmt_entry ∷ record_value_entry ∷ with_cast_entry false 4 ∷
+    with_cast_entry false 5 ∷ with_cast_entry true 4 ∷ with_cast_entry true 5 ∷ assigned_entry ∷ []
 
 abbrev pub table : Table
 table = table_of entries

@@ -66,11 +66,11 @@ arm_entry =
 abbrev pub last_arm_entry : Entry
 last_arm_entry = text (node MATCH_ARM (arm_head ⊳ c StmtExpr) ∷ []) arm_firsts (kinds_only (R_CURLY ∷ []))
 
+abbrev pub match_arms : Part
+match_arms = node MATCH_ARM_LIST (t L_CURLY ⊳ inner_attrs ⊳ until (c Arm) (opt (c LastArm)) ⊳ t R_CURLY)
+
 abbrev pub match_after : Part → Part
-match_after pre =
-    node MATCH_EXPR
-    (pre ⊳ t MATCH_KW ⊳ c Condition ⊳
-    node MATCH_ARM_LIST (t L_CURLY ⊳ inner_attrs ⊳ until (c Arm) (opt (c LastArm)) ⊳ t R_CURLY))
+match_after pre = node MATCH_EXPR (pre ⊳ t MATCH_KW ⊳ c Condition ⊳ match_arms)
 
 -- loops and blocks, which may have a label, and a block that is told what it is
 abbrev pub label : Part
@@ -137,12 +137,12 @@ under_stmt (a ∷ more) = node EXPR_STMT (a ⊳ t SEMICOLON) ∷ under_stmt more
 abbrev pub let_head : Part
 let_head = attrs ⊳ t LET_KW ⊳ c Pattern ⊳ opt (t COLON ⊳ guard (next_is COLON) ⊳ c Ty)
 
-abbrev pub let_stmt : Part
-let_stmt = node LET_STMT (let_head ⊳ opt (t EQ ⊳ c Expr) ⊳ t SEMICOLON)
+abbrev pub let_stmt : Part → Part
+let_stmt end = node LET_STMT (let_head ⊳ opt (t EQ ⊳ c Expr) ⊳ end)
 
-abbrev pub let_else : ℕ → Part
-let_else category =
-    node LET_STMT (let_head ⊳ t EQ ⊳ c category ⊳ node LET_ELSE (t ELSE_KW ⊳ c Block) ⊳ t SEMICOLON)
+abbrev pub let_else : ℕ → Part → Part
+let_else category end =
+    node LET_STMT (let_head ⊳ t EQ ⊳ c category ⊳ node LET_ELSE (t ELSE_KW ⊳ c Block) ⊳ end)
 
 abbrev pub macro_rules : Part
 macro_rules = node MACRO_RULES (attrs ⊳ opt_visibility ⊳ weak MACRO_RULES_KW ⊳ t BANG ⊳ name ⊳ tree_and_end)
@@ -154,12 +154,14 @@ stmt_firsts =
 abbrev pub stmt_follows : List (List Place)
 stmt_follows = kinds_only (R_CURLY ∷ EOF ∷ SEMICOLON ∷ []) ++ stmt_firsts
 
+abbrev pub stmt_items : List Part
+stmt_items = struct_items ++ (other_items ++ (import_items ++ (trait_items ++ macro_rules ∷ [])))
+
 abbrev pub stmt_entry : Entry
 stmt_entry =
     nodes_of stmt_read_by
-    (let_stmt ∷ let_else ElseValue ∷
-    (under_stmt (c EndingBlock ∷ (stmt_exprs ++ attributed_call ∷ attributed_blocks)) ++
-    (struct_items ++ (other_items ++ (import_items ++ (trait_items ++ macro_rules ∷ []))))))
+    (let_stmt (t SEMICOLON) ∷ let_else ElseValue (t SEMICOLON) ∷
+    (under_stmt (c EndingBlock ∷ (stmt_exprs ++ attributed_call ∷ attributed_blocks)) ++ stmt_items))
     stmt_firsts stmt_follows
 
 abbrev pub empty_stmt_entry : Entry
@@ -200,3 +202,15 @@ macro_tail_read_by r = []
 
 abbrev pub macro_tail_entry : Entry
 macro_tail_entry = nodes_of macro_tail_read_by tail_rows tail_firsts (kinds_only (EOF ∷ []))
+
+-- Statements without a semicolon, at the front of an input: before a semicolon or a comma, and before an end.
+abbrev pub front_stmts : List Part → List (List Place) → Entry
+front_stmts exprs follows =
+    nodes_of no_rule (let_stmt none_before ∷ let_else ElseValue none_before ∷ (exprs ++ stmt_items)) stmt_firsts
+    follows
+
+abbrev pub front_stmt_entry : Entry
+front_stmt_entry = front_stmts (each_under EXPR_STMT tail_rows) (kinds_only (SEMICOLON ∷ COMMA ∷ []))
+
+abbrev pub last_stmt_entry : Entry
+last_stmt_entry = front_stmts tail_rows (kinds_only (EOF ∷ R_CURLY ∷ []))

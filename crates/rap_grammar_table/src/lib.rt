@@ -1,2 +1,5 @@
-//! The grammar as a table, and a checker of scripts against its rows.
+//! The grammar as a table, and a checker of scripts against its rows. The only code is functions that do nothing, whose
+//! contracts are laws of the table.
 #![tactic(auto)]
+
+pub mod table_laws;
