@@ -122,7 +122,7 @@ grew {n = n} {s = s} {v = v} k p q d h =
       below = l.below;
     }
 
-spent : (room : ℕ) (p q : Parser) → (state q).left < (state p).left →
+pub spent : (room : ℕ) (p q : Parser) → (state q).left < (state p).left →
     Costs (bill (paid 255) (paid room)) (stand (state p)) (stand (state q)) →
     (state q).count + 256 * (state q).left + room ≤ (state p).count + 256 * (state p).left
 unfolding state

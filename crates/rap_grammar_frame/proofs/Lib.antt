@@ -1,5 +1,6 @@
 pub mod Binary
 pub mod Done
+pub mod Ended
 pub mod Ending
 pub mod Growth
 pub mod Left

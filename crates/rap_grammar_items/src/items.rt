@@ -113,7 +113,7 @@ fn refuse(
 }
 
 /// An item that begins with a keyword of its own, or with a name that is read as one.
-#[tactic(auto, unfolding(rap_grammar_scripts::specs::Items::opt_item_without_modifiers))]
+#[tactic(auto, using(rap_grammar_items_adt::proofs::Lines::strukt_ended, rap_grammar_items_adt::proofs::Lines::enum_ended), unfolding(rap_grammar_scripts::specs::Items::opt_item_without_modifiers))]
 fn opt_item_without_modifiers<G: Grammar>(
     p: &mut Parser<'_>,
     g: &G,
@@ -271,7 +271,7 @@ fn starts_global_asm(p: &Parser<'_>) -> bool
 }
 
 /// An item that begins with a name that is read as a keyword, as `union`.
-#[tactic(auto, unfolding(rap_grammar_scripts::specs::Items::opt_item_by_name))]
+#[tactic(auto, using(rap_grammar_items_adt::proofs::Lines::union_ended), unfolding(rap_grammar_scripts::specs::Items::opt_item_by_name))]
 fn opt_item_by_name<G: Grammar>(
     p: &mut Parser<'_>,
     g: &G,

@@ -1,14 +1,13 @@
 //! Structs, unions and enums.
-ghost use Rattle.std.specs.Prelude.{◌≡◌, ◌≢◌, ◌<◌, ◌≤◌, IfOk, OnOk, Some, true, false, ℕ};
+ghost use Rattle.std.specs.Prelude.{◌≡◌, ◌<◌, ◌≤◌, IfOk, OnOk, Some, true, false, ℕ};
 ghost use Rattle.rap_base.specs.NodeKind.{VARIANT_LIST, RECORD_FIELD_LIST};
-ghost use Rattle.rap_base.specs.TokenKind.{EOF, UNSAFE_KW, STRUCT_KW, ENUM_KW, UNION_KW, MUT_KW, L_CURLY, R_CURLY, L_PAREN};
+ghost use Rattle.rap_base.specs.TokenKind.{STRUCT_KW, ENUM_KW, UNION_KW, MUT_KW, L_CURLY, L_PAREN};
 ghost use Rattle.rap_events.specs.Forest.{node};
 ghost use Rattle.rap_events.specs.State.{state, last_children, next, ReadsAs};
 ghost use Rattle.rap_grammar_scripts.specs.Adt as script;
 ghost use Rattle.rap_grammar_scripts.specs.Adt.{is_mut_restriction_start};
-ghost use Rattle.rap_grammar_frame.specs.Grew.{Within, Behind, Took, Grew, Ended, Gone, Spent};
+ghost use Rattle.rap_grammar_frame.specs.Grew.{Within, Behind};
 ghost use Rattle.rap_grammar_scripts.specs.Exec.{Does};
-ghost use Rattle.rap_grammar_frame.specs.Room.{brackets_room, item_room, list_room, name_room, element_room, param_room, type_room, recovery_events};
 ghost use Rattle.rap_grammar_scripts.specs.Script.{something};
 ghost use Rattle.rap_grammar_scripts.specs.Test.{holds};
 ghost use Rattle.rap_grammar_scripts.specs.Words.{of_bool};
@@ -28,12 +27,11 @@ use rap_grammar_frame::through_knot::{expr, opt_generic_param_list, opt_where_cl
 use rap_grammar_paths::visibility::{opt_visibility, opt_visibility_inner};
 
 /// A struct from its keyword on, as `struct S;`.
-#[tactic(auto, unfolding(rap_grammar_scripts::specs::Adt::strukt, rap_events::specs::Machine::top))]
+#[tactic(auto, using(rap_grammar_frame::proofs::Done::marker_kept, crate::proofs::Lines::level_struct_or_union), unfolding(rap_grammar_scripts::specs::Adt::strukt))]
 pub fn strukt<G: Grammar>(p: &mut Parser<'_>, g: &G, m: Marker) -> Result<(), NoMemory>
     requires within { Within G.valid G.left g.now (state p.old) }
     requires newest { (state p.old).marker ≡ Some m.pos.value }
     requires here { next (state p.old) ≡ STRUCT_KW }
-    ensures ended { OnOk result (Ended (state p.old) (state p.new) item_room) }
     ensures script { OnOk result (Does (G.left g.now) script.strukt something (state p.old) (state p.new)) }
 {
     p.bump(T![struct])?;
@@ -43,12 +41,11 @@ pub fn strukt<G: Grammar>(p: &mut Parser<'_>, g: &G, m: Marker) -> Result<(), No
 }
 
 /// A union from its keyword on, as `union U { a: b }`.
-#[tactic(auto, unfolding(rap_grammar_scripts::specs::Adt::union, rap_events::specs::Machine::top))]
+#[tactic(auto, using(rap_grammar_frame::proofs::Done::marker_kept, crate::proofs::Lines::level_struct_or_union), unfolding(rap_grammar_scripts::specs::Adt::union))]
 pub fn union<G: Grammar>(p: &mut Parser<'_>, g: &G, m: Marker) -> Result<(), NoMemory>
     requires within { Within G.valid G.left g.now (state p.old) }
     requires newest { (state p.old).marker ≡ Some m.pos.value }
     requires here { ReadsAs (state p.old) UNION_KW }
-    ensures ended { OnOk result (Ended (state p.old) (state p.new) item_room) }
     ensures script { OnOk result (Does (G.left g.now) script.union something (state p.old) (state p.new)) }
 {
     p.bump_remap(T![union])?;
@@ -61,7 +58,6 @@ pub fn union<G: Grammar>(p: &mut Parser<'_>, g: &G, m: Marker) -> Result<(), NoM
 #[tactic(auto, unfolding(rap_grammar_scripts::specs::Adt::struct_or_union))]
 fn struct_or_union<G: Grammar>(p: &mut Parser<'_>, g: &G, is_struct: bool) -> Result<(), NoMemory>
     requires behind { Behind G.valid G.left g.now (state p.old) }
-    ensures grew { OnOk result (Grew (state p.old) (state p.new) 4) }
     ensures script { OnOk result
         (Does (G.left g.now) (script.struct_or_union is_struct) something (state p.old) (state p.new)) }
 {
@@ -75,7 +71,6 @@ fn struct_or_union<G: Grammar>(p: &mut Parser<'_>, g: &G, is_struct: bool) -> Re
 #[tactic(auto, unfolding(rap_grammar_scripts::specs::Adt::fields))]
 fn fields<G: Grammar>(p: &mut Parser<'_>, g: &G, is_struct: bool) -> Result<(), NoMemory>
     requires behind { Behind G.valid G.left g.now (state p.old) }
-    ensures grew { OnOk result (Grew (state p.old) (state p.new) 1) }
     ensures script { OnOk result (Does (G.left g.now) (script.fields is_struct) something (state p.old) (state p.new)) }
 {
     if p.at(T![where]) {
@@ -98,7 +93,6 @@ fn fields<G: Grammar>(p: &mut Parser<'_>, g: &G, is_struct: bool) -> Result<(), 
 #[tactic(auto, unfolding(rap_grammar_scripts::specs::Adt::fields_behind_where))]
 fn fields_behind_where<G: Grammar>(p: &mut Parser<'_>, g: &G) -> Result<(), NoMemory>
     requires behind { Behind G.valid G.left g.now (state p.old) }
-    ensures grew { OnOk result (Grew (state p.old) (state p.new) 1) }
     ensures script { OnOk result
         (Does (G.left g.now) script.fields_behind_where something (state p.old) (state p.new)) }
 {
@@ -118,7 +112,6 @@ fn fields_behind_where<G: Grammar>(p: &mut Parser<'_>, g: &G) -> Result<(), NoMe
 #[tactic(auto, unfolding(rap_grammar_scripts::specs::Adt::struct_fields))]
 fn struct_fields<G: Grammar>(p: &mut Parser<'_>, g: &G) -> Result<(), NoMemory>
     requires behind { Behind G.valid G.left g.now (state p.old) }
-    ensures grew { OnOk result (Grew (state p.old) (state p.new) 1) }
     ensures script { OnOk result (Does (G.left g.now) script.struct_fields something (state p.old) (state p.new)) }
 {
     if p.eat(T![;])? {
@@ -133,11 +126,10 @@ fn struct_fields<G: Grammar>(p: &mut Parser<'_>, g: &G) -> Result<(), NoMemory>
 }
 
 /// Fields in parentheses, and what stands after them.
-#[tactic(auto, unfolding(rap_grammar_scripts::specs::Adt::tuple_fields))]
+#[tactic(auto, using(crate::proofs::Lines::tuple_list_moved), unfolding(rap_grammar_scripts::specs::Adt::tuple_fields))]
 fn tuple_fields<G: Grammar>(p: &mut Parser<'_>, g: &G) -> Result<(), NoMemory>
     requires within { Within G.valid G.left g.now (state p.old) }
     requires here { next (state p.old) ≡ L_PAREN }
-    ensures grew { OnOk result (Grew (state p.old) (state p.new) 0) }
     ensures script { OnOk result (Does (G.left g.now) script.tuple_fields something (state p.old) (state p.new)) }
 {
     tuple_field_list(p, g)?;
@@ -147,12 +139,11 @@ fn tuple_fields<G: Grammar>(p: &mut Parser<'_>, g: &G) -> Result<(), NoMemory>
 }
 
 /// An enum from its keyword on, as `enum E { A }`.
-#[tactic(auto, unfolding(rap_grammar_scripts::specs::Adt::enum_, rap_events::specs::Machine::top))]
+#[tactic(auto, using(rap_grammar_frame::proofs::Done::marker_kept, crate::proofs::Lines::level_variant_list), unfolding(rap_grammar_scripts::specs::Adt::enum_))]
 pub fn enum_<G: Grammar>(p: &mut Parser<'_>, g: &G, m: Marker) -> Result<(), NoMemory>
     requires within { Within G.valid G.left g.now (state p.old) }
     requires newest { (state p.old).marker ≡ Some m.pos.value }
     requires here { next (state p.old) ≡ ENUM_KW }
-    ensures ended { OnOk result (Ended (state p.old) (state p.new) item_room) }
     ensures script { OnOk result (Does (G.left g.now) script.enum_ something (state p.old) (state p.new)) }
 {
     p.bump(T![enum])?;
@@ -170,11 +161,10 @@ pub fn enum_<G: Grammar>(p: &mut Parser<'_>, g: &G, m: Marker) -> Result<(), NoM
 }
 
 /// The variants of an enum in their braces.
-#[tactic(auto, unfolding(rap_grammar_scripts::specs::Adt::variant_list))]
+#[tactic(auto, using(rap_grammar_frame::proofs::Done::marker_kept, rap_grammar_frame::proofs::Ended::below_kept, crate::proofs::Lines::level_variants), unfolding(rap_grammar_scripts::specs::Adt::variant_list))]
 pub fn variant_list<G: Grammar>(p: &mut Parser<'_>, g: &G) -> Result<(), NoMemory>
     requires within { Within G.valid G.left g.now (state p.old) }
     requires here { next (state p.old) ≡ L_CURLY }
-    ensures took { OnOk result (Took (state p.old) (state p.new) list_room) }
     ensures one { OnOk result
         ((state p.new).forest ≡ node (state p.old).forest VARIANT_LIST (last_children (state p.new).forest)) }
     ensures script { OnOk result (Does (G.left g.now) script.variant_list something (state p.old) (state p.new)) }
@@ -188,10 +178,9 @@ pub fn variant_list<G: Grammar>(p: &mut Parser<'_>, g: &G) -> Result<(), NoMemor
 }
 
 /// Variants up to the brace that closes their list.
-#[tactic(auto, using(rap_grammar_frame::proofs::Loops::turns), unfolding(rap_grammar_scripts::specs::Adt::variants))]
+#[tactic(auto, using(rap_grammar_frame::proofs::Loops::turns, rap_grammar_frame::proofs::Done::less_left, crate::proofs::Lines::variant_moved), unfolding(rap_grammar_scripts::specs::Adt::variants))]
 fn variants<G: Grammar>(p: &mut Parser<'_>, g: &G) -> Result<(), NoMemory>
     requires behind { Behind G.valid G.left g.now (state p.old) }
-    ensures grew { OnOk result (Grew (state p.old) (state p.new) 0) }
     ensures script { OnOk result (Does (G.left g.now) script.variants something (state p.old) (state p.new)) }
 {
     'variants: while !p.at(SyntaxKind::EOF) && !p.at(T!['}']) {
@@ -204,9 +193,6 @@ fn variants<G: Grammar>(p: &mut Parser<'_>, g: &G) -> Result<(), NoMemory>
 #[tactic(auto, unfolding(rap_grammar_scripts::specs::Adt::variant_or_block))]
 fn variant_or_block<G: Grammar>(p: &mut Parser<'_>, g: &G) -> Result<(), NoMemory>
     requires behind { Behind G.valid G.left g.now (state p.old) }
-    requires more { next (state p.old) ≢ EOF }
-    requires inside { next (state p.old) ≢ R_CURLY }
-    ensures took { OnOk result (Took (state p.old) (state p.new) element_room) }
     ensures script { OnOk result (Does (G.left g.now) script.variant_or_block something (state p.old) (state p.new)) }
 {
     if p.at(T!['{']) {
@@ -221,7 +207,6 @@ fn variant_or_block<G: Grammar>(p: &mut Parser<'_>, g: &G) -> Result<(), NoMemor
 /// The comma in braces, before another field or variant and after it.
 #[tactic(auto, unfolding(rap_grammar_scripts::specs::Adt::comma_in_braces))]
 fn comma_in_braces(p: &mut Parser<'_>) -> Result<(), NoMemory>
-    ensures grew { OnOk result (Grew (state p.old) (state p.new) 1) }
     ensures script { OnOk result
         ((depth : ℕ) → Does depth script.comma_in_braces something (state p.old) (state p.new)) }
 {
@@ -236,9 +221,6 @@ fn comma_in_braces(p: &mut Parser<'_>) -> Result<(), NoMemory>
 #[tactic(auto, unfolding(rap_grammar_scripts::specs::Adt::variant))]
 fn variant<G: Grammar>(p: &mut Parser<'_>, g: &G) -> Result<(), NoMemory>
     requires behind { Behind G.valid G.left g.now (state p.old) }
-    requires more { next (state p.old) ≢ EOF }
-    requires inside { next (state p.old) ≢ R_CURLY }
-    ensures took { OnOk result (Took (state p.old) (state p.new) param_room) }
     ensures script { OnOk result (Does (G.left g.now) script.variant something (state p.old) (state p.new)) }
 {
     let m = p.start()?;
@@ -252,9 +234,6 @@ fn variant<G: Grammar>(p: &mut Parser<'_>, g: &G) -> Result<(), NoMemory>
 fn named_variant<G: Grammar>(p: &mut Parser<'_>, g: &G, m: Marker) -> Result<(), NoMemory>
     requires behind { Behind G.valid G.left g.now (state p.old) }
     requires newest { (state p.old).marker ≡ Some m.pos.value }
-    ensures gone { OnOk result (Gone (state p.old) (state p.new) 4) }
-    ensures spent { OnOk result
-        (next (state p.old) ≢ EOF → next (state p.old) ≢ R_CURLY → Spent (state p.old) (state p.new) type_room) }
     ensures script { OnOk result (Does (G.left g.now) script.named_variant something (state p.old) (state p.new)) }
 {
     if p.at(T![ident]) {
@@ -274,9 +253,6 @@ fn named_variant<G: Grammar>(p: &mut Parser<'_>, g: &G, m: Marker) -> Result<(),
 /// A field or a variant is missing. The next token is skipped too, unless the list ends there.
 #[tactic(auto, unfolding(rap_grammar_scripts::specs::Adt::missing_in_list))]
 fn missing_in_list(p: &mut Parser<'_>, message: &str) -> Result<(), NoMemory>
-    ensures grew { OnOk result (Grew (state p.old) (state p.new) recovery_events) }
-    ensures took { OnOk result
-        (next (state p.old) ≢ EOF → next (state p.old) ≢ R_CURLY → Took (state p.old) (state p.new) name_room) }
     ensures script { OnOk result
         ((depth : ℕ) → Does depth (script.missing_in_list message.now) something (state p.old) (state p.new)) }
 {
@@ -289,11 +265,10 @@ fn missing_in_list(p: &mut Parser<'_>, message: &str) -> Result<(), NoMemory>
 }
 
 /// What stands after a variant's name: its fields and its value.
-#[tactic(auto, unfolding(rap_grammar_scripts::specs::Adt::after_variant_name))]
+#[tactic(auto, using(rap_grammar_frame::proofs::Done::less_left, rap_grammar_frame::proofs::Done::marker_kept, crate::proofs::Lines::level_variant_fields, crate::proofs::Lines::level_opt_value), unfolding(rap_grammar_scripts::specs::Adt::after_variant_name))]
 fn after_variant_name<G: Grammar>(p: &mut Parser<'_>, g: &G, m: Marker) -> Result<(), NoMemory>
     requires behind { Behind G.valid G.left g.now (state p.old) }
     requires newest { (state p.old).marker ≡ Some m.pos.value }
-    ensures gone { OnOk result (Gone (state p.old) (state p.new) 1) }
     ensures script { OnOk result (Does (G.left g.now) script.after_variant_name something (state p.old) (state p.new)) }
 {
     variant_fields(p, g)?;
@@ -306,7 +281,6 @@ fn after_variant_name<G: Grammar>(p: &mut Parser<'_>, g: &G, m: Marker) -> Resul
 #[tactic(auto, unfolding(rap_grammar_scripts::specs::Adt::variant_fields))]
 fn variant_fields<G: Grammar>(p: &mut Parser<'_>, g: &G) -> Result<(), NoMemory>
     requires behind { Behind G.valid G.left g.now (state p.old) }
-    ensures grew { OnOk result (Grew (state p.old) (state p.new) 0) }
     ensures script { OnOk result (Does (G.left g.now) script.variant_fields something (state p.old) (state p.new)) }
 {
     if p.at(T!['{']) {
@@ -324,7 +298,6 @@ fn variant_fields<G: Grammar>(p: &mut Parser<'_>, g: &G) -> Result<(), NoMemory>
 #[tactic(auto, unfolding(rap_grammar_scripts::specs::Adt::opt_value))]
 fn opt_value<G: Grammar>(p: &mut Parser<'_>, g: &G) -> Result<(), NoMemory>
     requires within { Within G.valid G.left g.now (state p.old) }
-    ensures grew { OnOk result (Grew (state p.old) (state p.new) 0) }
     ensures script { OnOk result (Does (G.left g.now) script.opt_value something (state p.old) (state p.new)) }
 {
     if !p.eat(T![=])? {
@@ -337,11 +310,10 @@ fn opt_value<G: Grammar>(p: &mut Parser<'_>, g: &G) -> Result<(), NoMemory>
 }
 
 /// Named fields in their braces, as `{ a: b, c: d }`.
-#[tactic(auto, unfolding(rap_grammar_scripts::specs::Adt::record_field_list))]
+#[tactic(auto, using(rap_grammar_frame::proofs::Done::marker_kept, rap_grammar_frame::proofs::Ended::below_kept, crate::proofs::Lines::level_record_fields), unfolding(rap_grammar_scripts::specs::Adt::record_field_list))]
 pub fn record_field_list<G: Grammar>(p: &mut Parser<'_>, g: &G) -> Result<(), NoMemory>
     requires within { Within G.valid G.left g.now (state p.old) }
     requires here { next (state p.old) ≡ L_CURLY }
-    ensures took { OnOk result (Took (state p.old) (state p.new) list_room) }
     ensures one { OnOk result
         ((state p.new).forest ≡ node (state p.old).forest RECORD_FIELD_LIST (last_children (state p.new).forest)) }
     ensures script { OnOk result (Does (G.left g.now) script.record_field_list something (state p.old) (state p.new)) }
@@ -355,10 +327,9 @@ pub fn record_field_list<G: Grammar>(p: &mut Parser<'_>, g: &G) -> Result<(), No
 }
 
 /// Named fields up to the brace that closes their list.
-#[tactic(auto, using(rap_grammar_frame::proofs::Loops::turns), unfolding(rap_grammar_scripts::specs::Adt::record_fields))]
+#[tactic(auto, using(rap_grammar_frame::proofs::Loops::turns, rap_grammar_frame::proofs::Done::less_left, crate::proofs::Lines::field_moved), unfolding(rap_grammar_scripts::specs::Adt::record_fields))]
 fn record_fields<G: Grammar>(p: &mut Parser<'_>, g: &G) -> Result<(), NoMemory>
     requires behind { Behind G.valid G.left g.now (state p.old) }
-    ensures grew { OnOk result (Grew (state p.old) (state p.new) 0) }
     ensures script { OnOk result (Does (G.left g.now) script.record_fields something (state p.old) (state p.new)) }
 {
     'fields: while !p.at(T!['}']) && !p.at(SyntaxKind::EOF) {
@@ -371,9 +342,6 @@ fn record_fields<G: Grammar>(p: &mut Parser<'_>, g: &G) -> Result<(), NoMemory>
 #[tactic(auto, unfolding(rap_grammar_scripts::specs::Adt::field_or_block))]
 fn field_or_block<G: Grammar>(p: &mut Parser<'_>, g: &G) -> Result<(), NoMemory>
     requires behind { Behind G.valid G.left g.now (state p.old) }
-    requires more { next (state p.old) ≢ EOF }
-    requires inside { next (state p.old) ≢ R_CURLY }
-    ensures took { OnOk result (Took (state p.old) (state p.new) element_room) }
     ensures script { OnOk result (Does (G.left g.now) script.field_or_block something (state p.old) (state p.new)) }
 {
     if p.at(T!['{']) {
@@ -389,9 +357,6 @@ fn field_or_block<G: Grammar>(p: &mut Parser<'_>, g: &G) -> Result<(), NoMemory>
 #[tactic(auto, unfolding(rap_grammar_scripts::specs::Adt::record_field))]
 fn record_field<G: Grammar>(p: &mut Parser<'_>, g: &G) -> Result<(), NoMemory>
     requires behind { Behind G.valid G.left g.now (state p.old) }
-    requires more { next (state p.old) ≢ EOF }
-    requires inside { next (state p.old) ≢ R_CURLY }
-    ensures took { OnOk result (Took (state p.old) (state p.new) param_room) }
     ensures script { OnOk result (Does (G.left g.now) script.record_field something (state p.old) (state p.new)) }
 {
     let m = p.start()?;
@@ -405,9 +370,6 @@ fn record_field<G: Grammar>(p: &mut Parser<'_>, g: &G) -> Result<(), NoMemory>
 fn visible_field<G: Grammar>(p: &mut Parser<'_>, g: &G, m: Marker) -> Result<(), NoMemory>
     requires behind { Behind G.valid G.left g.now (state p.old) }
     requires newest { (state p.old).marker ≡ Some m.pos.value }
-    ensures gone { OnOk result (Gone (state p.old) (state p.new) 4) }
-    ensures spent { OnOk result
-        (next (state p.old) ≢ EOF → next (state p.old) ≢ R_CURLY → Spent (state p.old) (state p.new) type_room) }
     ensures script { OnOk result (Does (G.left g.now) script.visible_field something (state p.old) (state p.new)) }
 {
     opt_visibility(p, g, false)?;
@@ -416,13 +378,10 @@ fn visible_field<G: Grammar>(p: &mut Parser<'_>, g: &G, m: Marker) -> Result<(),
 }
 
 /// A field from its `mut` restriction on, which may stand before `unsafe` and after it.
-#[tactic(auto, unfolding(rap_grammar_scripts::specs::Adt::restricted_field))]
+#[tactic(auto, using(rap_grammar_frame::proofs::Done::less_left, rap_grammar_frame::proofs::Done::marker_kept, crate::proofs::Lines::level_opt_mut_restriction, crate::proofs::Lines::level_opt_unsafe), unfolding(rap_grammar_scripts::specs::Adt::restricted_field))]
 fn restricted_field<G: Grammar>(p: &mut Parser<'_>, g: &G, m: Marker) -> Result<(), NoMemory>
     requires behind { Behind G.valid G.left g.now (state p.old) }
     requires newest { (state p.old).marker ≡ Some m.pos.value }
-    ensures gone { OnOk result (Gone (state p.old) (state p.new) 4) }
-    ensures spent { OnOk result
-        (next (state p.old) ≢ EOF → next (state p.old) ≢ R_CURLY → Spent (state p.old) (state p.new) type_room) }
     ensures script { OnOk result (Does (G.left g.now) script.restricted_field something (state p.old) (state p.new)) }
 {
     opt_mut_restriction(p, g)?;
@@ -432,12 +391,10 @@ fn restricted_field<G: Grammar>(p: &mut Parser<'_>, g: &G, m: Marker) -> Result<
 }
 
 /// A field from its name on.
+#[tactic(auto, using(rap_grammar_frame::proofs::Done::marker_kept, crate::proofs::Lines::level_opt_value))]
 fn named_field<G: Grammar>(p: &mut Parser<'_>, g: &G, m: Marker) -> Result<(), NoMemory>
     requires behind { Behind G.valid G.left g.now (state p.old) }
     requires newest { (state p.old).marker ≡ Some m.pos.value }
-    ensures gone { OnOk result (Gone (state p.old) (state p.new) 4) }
-    ensures spent { OnOk result
-        (next (state p.old) ≢ EOF → next (state p.old) ≢ R_CURLY → Spent (state p.old) (state p.new) type_room) }
     ensures script { OnOk result (Does (G.left g.now) script.named_field something (state p.old) (state p.new)) }
 {
     if p.at(T![ident]) {
@@ -457,9 +414,6 @@ fn named_field<G: Grammar>(p: &mut Parser<'_>, g: &G, m: Marker) -> Result<(), N
 #[tactic(auto, unfolding(rap_grammar_scripts::specs::Adt::opt_unsafe))]
 fn opt_unsafe<G: Grammar>(p: &mut Parser<'_>, g: &G) -> Result<(), NoMemory>
     requires within { Within G.valid G.left g.now (state p.old) }
-    ensures grew { OnOk result (Grew (state p.old) (state p.new) 0) }
-    ensures took { OnOk result (next (state p.old) ≡ UNSAFE_KW → Took (state p.old) (state p.new) list_room) }
-    ensures stays { OnOk result (next (state p.old) ≢ UNSAFE_KW → state p.new ≡ state p.old) }
     ensures script { OnOk result (Does (G.left g.now) script.opt_unsafe something (state p.old) (state p.new)) }
 {
     if !p.eat(T![unsafe])? {
@@ -481,11 +435,6 @@ fn is_mut_restriction_start(p: &Parser<'_>) -> bool
 #[tactic(auto, unfolding(rap_grammar_scripts::specs::Adt::opt_mut_restriction))]
 fn opt_mut_restriction<G: Grammar>(p: &mut Parser<'_>, g: &G) -> Result<(), NoMemory>
     requires within { Within G.valid G.left g.now (state p.old) }
-    ensures grew { OnOk result (Grew (state p.old) (state p.new) 0) }
-    ensures took { OnOk result
-        (holds is_mut_restriction_start (state p.old).rest ≡ true → Took (state p.old) (state p.new) brackets_room) }
-    ensures stays { OnOk result
-        (holds is_mut_restriction_start (state p.old).rest ≡ false → state p.new ≡ state p.old) }
     ensures script { OnOk result
         (Does (G.left g.now) script.opt_mut_restriction something (state p.old) (state p.new)) }
 {
@@ -500,7 +449,6 @@ fn opt_mut_restriction<G: Grammar>(p: &mut Parser<'_>, g: &G) -> Result<(), NoMe
 fn mut_restriction<G: Grammar>(p: &mut Parser<'_>, g: &G) -> Result<(), NoMemory>
     requires within { Within G.valid G.left g.now (state p.old) }
     requires here { next (state p.old) ≡ MUT_KW }
-    ensures took { OnOk result (Took (state p.old) (state p.new) brackets_room) }
     ensures script { OnOk result (Does (G.left g.now) script.mut_restriction something (state p.old) (state p.new)) }
 {
     let m = p.start()?;
@@ -519,7 +467,6 @@ fn mut_restriction<G: Grammar>(p: &mut Parser<'_>, g: &G) -> Result<(), NoMemory
 fn tuple_field_list<G: Grammar>(p: &mut Parser<'_>, g: &G) -> Result<(), NoMemory>
     requires within { Within G.valid G.left g.now (state p.old) }
     requires here { next (state p.old) ≡ L_PAREN }
-    ensures took { OnOk result (Took (state p.old) (state p.new) list_room) }
     ensures script { OnOk result (Does (G.left g.now) script.tuple_field_list something (state p.old) (state p.new)) }
 {
     let m = p.start()?;
@@ -559,7 +506,7 @@ impl Element for TupleField {
 }
 
 /// A field without a name from its `mut` restriction on. Returns whether there is one.
-#[tactic(auto, unfolding(rap_grammar_scripts::specs::Adt::restricted_tuple_field))]
+#[tactic(auto, using(rap_grammar_frame::proofs::Done::less_left, rap_grammar_frame::proofs::Done::marker_kept, crate::proofs::Lines::level_opt_mut_restriction), unfolding(rap_grammar_scripts::specs::Adt::restricted_tuple_field))]
 fn restricted_tuple_field<G: Grammar>(
     p: &mut Parser<'_>,
     g: &G,
@@ -568,8 +515,6 @@ fn restricted_tuple_field<G: Grammar>(
 ) -> Result<bool, NoMemory>
     requires behind { Behind G.valid G.left g.now (state p.old) }
     requires newest { (state p.old).marker ≡ Some m.pos.value }
-    ensures gone { OnOk result (Gone (state p.old) (state p.new) 2) }
-    ensures spent { IfOk result (λ found. found ≡ true → Spent (state p.old) (state p.new) param_room) }
     ensures script { IfOk result
         (λ found. Does (G.left g.now) (script.restricted_tuple_field (of_bool has_vis)) (of_bool found) (state p.old)
         (state p.new)) }
@@ -590,8 +535,6 @@ fn typed_field<G: Grammar>(
 ) -> Result<bool, NoMemory>
     requires behind { Behind G.valid G.left g.now (state p.old) }
     requires newest { (state p.old).marker ≡ Some m.pos.value }
-    ensures gone { OnOk result (Gone (state p.old) (state p.new) 2) }
-    ensures spent { IfOk result (λ found. found ≡ true → Spent (state p.old) (state p.new) param_room) }
     ensures script { IfOk result
         (λ found. Does (G.left g.now) (script.typed_field (of_bool has_vis)) (of_bool found) (state p.old)
         (state p.new)) }
