@@ -61,6 +61,7 @@ class Kinds:
         self.names: dict[int, str] = {}
         self.words: dict[str, int] = {}
         self.texts: dict[int, str] = {}
+        self.reserved: dict[int, str] = {}
         with open(f'{TOP}/crates/rap_base/kinds.txt', encoding='utf-8') as lines:
             for line in lines:
                 number, *parts = line.split() or ['']
@@ -70,6 +71,8 @@ class Kinds:
                         self.words[parts[2]] = int(number)
                     elif parts[1] == 'punctuation':
                         self.texts[int(number)] = parts[2]
+                    elif parts[1].startswith('reserved'):
+                        self.reserved[int(number)] = parts[2]
         self.marks = {text: kind for kind, text in self.texts.items() if len(text) == 1}
         self.ident, self.trivia = self.numbers['IDENT'], {self.numbers['WHITESPACE'], self.numbers['COMMENT']}
 
