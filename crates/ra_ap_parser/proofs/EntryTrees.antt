@@ -1,24 +1,23 @@
 -- What the core grammar derives comes out of its entry as it was derived.
-use Rattle.std.proofs.Common.{◌≡◌, inl, inr, ℕ, List, [], ◌++◌, append-nil, length, true, refl, subst, sym, ◌∙◌}
+use Rattle.std.proofs.Common.{◌≡◌, inl, inr, ℕ, List, [], ◌++◌, append-nil, length, All, true, refl, subst, sym, ◌∙◌}
 use Rattle.rap_base.specs.NodeKind.{RECORD_FIELD_LIST, RECORD_EXPR_FIELD_LIST, VARIANT_LIST, MATCH_ARM_LIST, USE_TREE_LIST, EXTERN_ITEM_LIST, TOKEN_TREE, ASSOC_ITEM_LIST, ITEM_LIST}
-use Rattle.rap_base.specs.TokenKind.{L_CURLY}
-use Rattle.rap_events.specs.Record.{Record, next_kind}
+use Rattle.rap_base.specs.TokenKind.{L_CURLY, L_PAREN, SEMICOLON}
+use Rattle.rap_events.specs.Record.{Record, IsTokenRecord, next_kind}
 use Rattle.rap_events.specs.Forest.{Forest, none, node, message_count, one_tree}
-use Rattle.rap_grammar.proofs.Outputs.{derived, derived_clean, derived_type, derived_type_clean, derived_statements, derived_statements_clean, derived_file, derived_file_clean, derived_items, derived_items_clean, called_file, called_items, begun_file, begun_items, one_output, one_root}
-use Rattle.rap_grammar_core.specs.ParsedAgain.{is_parsed_again, MakesNode}
-use Rattle.rap_grammar_core.proofs.Again.{made_again, block_made, items_made, fields_made, token_tree_made, none_made}
+use Rattle.rap_grammar.proofs.Outputs.{begun_file, begun_items, one_output, one_root}
 use Rattle.rap_grammar.specs.Part.{IsPrefixOf, IsPartCore, IsWhole, IsOneNode, part_script, part_kind, asks_brace, in_braces}
 use Rattle.rap_grammar.specs.declared.entry.part.Part.{Part}
 use Rattle.rap_grammar.specs.declared.entry.part.Part.TheVariants as part
 use Rattle.rap_grammar.proofs.DotsInside.{visibility_inside, block_inside, path_inside, expression_inside, type_inside, pattern_inside, single_pattern_inside, meta_inside, statement_inside, item_inside}
 use Rattle.rap_grammar.proofs.Padded.{top_of_prefix}
 use Rattle.rap_grammar_core.specs.Dots.{dots_inside}
-use Rattle.rap_grammar.proofs.Tables.{expression_of_table, file_of_table, items_of_table, meta_of_table, pattern_of_table, stmts_of_table, type_of_table}
+use Rattle.rap_grammar.proofs.Tables.{expression_of_table, file_of_call, file_of_table, items_of_call, items_of_table, meta_of_table, pattern_of_table, stmts_of_table, type_of_table}
 use Rattle.rap_grammar.proofs.Parts.{one_prefix}
 use Rattle.rap_grammar_table.specs.Again.{MakesIn, category_in, parsed_again}
-use Rattle.rap_grammar_table.proofs.Again.{made_again as table_made_again}
+use Rattle.rap_grammar_table.proofs.Again.{made_again}
 use Rattle.rap_grammar_table.proofs.Fronts.{anchored_path_front, block_front, expr_front, global_path_front, item_front, last_stmt_front, meta_front, path_front, pattern_front, single_front, stmt_front, type_front, visibility_front}
-use Rattle.rap_grammar.proofs.Prefixes.{front_expression, front_type, front_block, front_item, front_of_table, front_part}
+use Rattle.rap_grammar_table.proofs.ByKind.{sees_other_behind}
+use Rattle.rap_grammar.proofs.Prefixes.{front_of_table, front_part}
 use Rattle.rap_grammar_core.specs.StandsIn.{StandsIn}
 use Rattle.ra_ap_parser.specs.Reparsed.{HasNode, IsAgainItself}
 use Rattle.ra_ap_parser.specs.EntryScript.{IsOutputOf, IsCore, IsCall, KeepsFront, IsPrefixOutputOf, IsPrefixCore, WrapsPrefix}
@@ -28,28 +27,24 @@ use Rattle.ra_ap_parser.specs.declared.entry_point.TopEntryPoint.{TopEntryPoint}
 use Rattle.ra_ap_parser.specs.declared.entry_point.TopEntryPoint.TheVariants as entry
 
 pub core_tree : (e : TopEntryPoint) (input : List Record) {tree output : Forest} → IsOutputOf e input output → IsCore e input tree → (output ≡ tree) × (message_count output ≡ 0)
-core_tree entry.SourceFile input i (inl d) = (derived_file i d, derived_file_clean i d)
-core_tree entry.SourceFile input i (inr d) = let x = file_of_table i d.1 in (x.0 ∙ sym d.2, x.1)
-core_tree entry.MacroStmts input i (inl d) = (derived_statements i d.1 ∙ sym d.2, derived_statements_clean i d.1)
-core_tree entry.MacroStmts input i (inr d) = let x = stmts_of_table i d.1 in (x.0 ∙ sym d.2, x.1)
-core_tree entry.MacroItems input i (inl d) = (derived_items i d.1 ∙ sym d.2, derived_items_clean i d.1)
-core_tree entry.MacroItems input i (inr d) = let x = items_of_table i d.1 in (x.0 ∙ sym d.2, x.1)
+core_tree entry.SourceFile input i d = let x = file_of_table i d.1 in (x.0 ∙ sym d.2, x.1)
+core_tree entry.MacroStmts input i d = let x = stmts_of_table i d.1 in (x.0 ∙ sym d.2, x.1)
+core_tree entry.MacroItems input i d = let x = items_of_table i d.1 in (x.0 ∙ sym d.2, x.1)
 core_tree entry.Pattern input i d = pattern_of_table i d
-core_tree entry.Ty input i (inl d) = (derived_type i d, derived_type_clean i d)
-core_tree entry.Ty input i (inr d) = type_of_table i d
-core_tree entry.Expr input i (inl d) = (derived i d, derived_clean i d)
-core_tree entry.Expr input i (inr d) = expression_of_table i d
+core_tree entry.Ty input i d = type_of_table i d
+core_tree entry.Expr input i d = expression_of_table i d
 core_tree entry.MetaItem input i d = meta_of_table i d
 
 -- and so does a macro call
-pub call_tree : (e : TopEntryPoint) (input : List Record) {tree output : Forest} → IsOutputOf e input output → IsCall e input tree → (output ≡ tree) × (message_count output ≡ 0)
-call_tree entry.SourceFile input i d = let x = called_file i d.1 in (x.0 ∙ sym d.2, x.1)
-call_tree entry.MacroStmts input i d = absurd d
-call_tree entry.MacroItems input i d = let x = called_items i d.1 in (x.0 ∙ sym d.2, x.1)
-call_tree entry.Pattern input i d = absurd d
-call_tree entry.Ty input i d = absurd d
-call_tree entry.Expr input i d = absurd d
-call_tree entry.MetaItem input i d = absurd d
+pub call_tree : (e : TopEntryPoint) (input : List Record) {tree output : Forest} → All IsTokenRecord input →
+    IsOutputOf e input output → IsCall e input tree → (output ≡ tree) × (message_count output ≡ 0)
+call_tree entry.SourceFile input h i d = let x = file_of_call i h d.1 in (x.0 ∙ sym d.2, x.1)
+call_tree entry.MacroStmts input h i d = absurd d
+call_tree entry.MacroItems input h i d = let x = items_of_call i h d.1 in (x.0 ∙ sym d.2, x.1)
+call_tree entry.Pattern input h i d = absurd d
+call_tree entry.Ty input h i d = absurd d
+call_tree entry.Expr input h i d = absurd d
+call_tree entry.MetaItem input h i d = absurd d
 
 -- what begins with items and tokens that begin none keeps their trees
 pub front_kept : (e : TopEntryPoint) (input : List Record) (output : Forest) → IsOutputOf e input output → KeepsFront e input output
@@ -133,26 +128,24 @@ part_dots part.AssocItemList input output brace one i = one_inside ASSOC_ITEM_LI
 part_dots part.ItemList input output brace one i = one_inside ITEM_LIST output (one (brace refl))
 
 -- a front of an input that is derived comes out as it was derived
-pub prefix_core : (e : PrefixEntryPoint) (input : List Record) {output : Forest} → IsPrefixOutputOf e input output →
-    (front rest : List Record) (tree : Forest) → input ≡ front ++ rest → IsPrefixCore e front rest tree →
-    IsWhole tree (length front) output
-prefix_core prefix.Vis input i ks l t e d = front_of_table ks l (rw e at i) d.0 (visibility_front d)
-prefix_core prefix.Block input i ks l t e (inl d) = front_block ks l (rw e at i) d
-prefix_core prefix.Block input i ks l t e (inr d) = front_of_table ks l (rw e at i) d (block_front l d)
-prefix_core prefix.Stmt input i ks l t e (inl d) = front_of_table ks l (rw e at i) d.0 (stmt_front d)
-prefix_core prefix.Stmt input i ks l t e (inr d) = front_of_table ks l (rw e at i) d.0 (last_stmt_front d)
-prefix_core prefix.Pat input i ks l t e d = front_of_table ks l (rw e at i) d.0 (single_front d)
-prefix_core prefix.PatTop input i ks l t e d = front_of_table ks l (rw e at i) d.0 (pattern_front d)
-prefix_core prefix.Ty input i ks l t e (inl d) = front_type ks l (rw e at i) d.0 d.1
-prefix_core prefix.Ty input i ks l t e (inr d) = front_of_table ks l (rw e at i) d.0 (type_front d)
-prefix_core prefix.Expr input i ks l t e (inl d) = front_expression ks l (rw e at i) d.0 d.1
-prefix_core prefix.Expr input i ks l t e (inr d) = front_of_table ks l (rw e at i) d.0 (expr_front d)
-prefix_core prefix.Path input i ks l t e (inl d) = front_of_table ks l (rw e at i) d.0 (path_front d)
-prefix_core prefix.Path input i ks l t e (inr (inl d)) = front_of_table ks l (rw e at i) d.0 (global_path_front d)
-prefix_core prefix.Path input i ks l t e (inr (inr d)) = front_of_table ks l (rw e at i) d.0 (anchored_path_front d)
-prefix_core prefix.Item input i ks l t e (inl d) = front_item ks l (rw e at i) d.0 d.1
-prefix_core prefix.Item input i ks l t e (inr d) = front_of_table ks l (rw e at i) d.0 (item_front d)
-prefix_core prefix.MetaItem input i ks l t e d = front_of_table ks l (rw e at i) d.0 (meta_front d)
+pub prefix_core : (e : PrefixEntryPoint) (input : List Record) {output : Forest} → All IsTokenRecord input →
+    IsPrefixOutputOf e input output → (front rest : List Record) (tree : Forest) → input ≡ front ++ rest →
+    IsPrefixCore e front rest tree → IsWhole tree (length front) output
+prefix_core prefix.Vis input h i ks l t e d =
+    front_of_table ks l (rw e at i) d.0 (visibility_front (d.0, sees_other_behind L_PAREN ks l (rw e at h) d.1))
+prefix_core prefix.Block input h i ks l t e d = front_of_table ks l (rw e at i) d (block_front l d)
+prefix_core prefix.Stmt input h i ks l t e (inl d) = front_of_table ks l (rw e at i) d.0 (stmt_front d)
+prefix_core prefix.Stmt input h i ks l t e (inr d) = front_of_table ks l (rw e at i) d.0 (last_stmt_front d)
+prefix_core prefix.Pat input h i ks l t e d = front_of_table ks l (rw e at i) d.0 (single_front d)
+prefix_core prefix.PatTop input h i ks l t e d = front_of_table ks l (rw e at i) d.0 (pattern_front d)
+prefix_core prefix.Ty input h i ks l t e d = front_of_table ks l (rw e at i) d.0 (type_front d)
+prefix_core prefix.Expr input h i ks l t e d = front_of_table ks l (rw e at i) d.0 (expr_front d)
+prefix_core prefix.Path input h i ks l t e (inl d) = front_of_table ks l (rw e at i) d.0 (path_front d)
+prefix_core prefix.Path input h i ks l t e (inr (inl d)) = front_of_table ks l (rw e at i) d.0 (global_path_front d)
+prefix_core prefix.Path input h i ks l t e (inr (inr d)) = front_of_table ks l (rw e at i) d.0 (anchored_path_front d)
+prefix_core prefix.Item input h i ks l t e d =
+    front_of_table ks l (rw e at i) d.0 (item_front (d.0, sees_other_behind SEMICOLON ks l (rw e at h) d.1))
+prefix_core prefix.MetaItem input h i ks l t e d = front_of_table ks l (rw e at i) d.0 (meta_front d)
 
 -- the same of a part
 pub part_core : (p : Part) (input : List Record) {output : Forest} → IsPrefixOf (part_script p) input output →
@@ -160,59 +153,25 @@ pub part_core : (p : Part) (input : List Record) {output : Forest} → IsPrefixO
     IsWhole tree (length front) output
 part_core p input i ks l t e d = front_part p ks l (rw e at i) d
 
--- what makes a node of a part's kind derives that part
-part_made : (p : Part) (own : List Record) {t : Forest} → MakesNode (part_kind p) own t → IsPartCore p own t
-part_made part.Visibility own m = none_made m refl
-part_made part.Path own m = none_made m refl
-part_made part.Block own m = inl (block_made m)
-part_made part.RecordFieldList own m = inl (fields_made m)
-part_made part.RecordExprFieldList own m = absurd (none_made m refl)
-part_made part.VariantList own m = absurd (none_made m refl)
-part_made part.MatchArmList own m = absurd (none_made m refl)
-part_made part.UseTreeList own m = absurd (none_made m refl)
-part_made part.ExternItemList own m = absurd (none_made m refl)
-part_made part.TokenTree own m = inl (token_tree_made m)
-part_made part.AssocItemList own m = absurd (none_made m refl)
-part_made part.ItemList own m = inl (items_made m)
-
-braces_parsed_again : (p : Part) → in_braces p ≡ true → is_parsed_again (part_kind p) ≡ true
-braces_parsed_again part.Visibility b = absurd cc
-braces_parsed_again part.Path b = absurd cc
-braces_parsed_again part.Block b = refl
-braces_parsed_again part.RecordFieldList b = refl
-braces_parsed_again part.RecordExprFieldList b = refl
-braces_parsed_again part.VariantList b = refl
-braces_parsed_again part.MatchArmList b = refl
-braces_parsed_again part.UseTreeList b = refl
-braces_parsed_again part.ExternItemList b = refl
-braces_parsed_again part.TokenTree b = refl
-braces_parsed_again part.AssocItemList b = refl
-braces_parsed_again part.ItemList b = refl
-
--- the same of what the table makes of its tokens
+-- what the table makes of a node's tokens is what it derives as that part
 made_in : (p : Part) (own : List Record) (t : Forest) → in_braces p ≡ true →
     MakesIn (category_in parsed_again (part_kind p)) own t → IsPartCore p own t
 made_in part.Visibility own t b m = absurd cc
 made_in part.Path own t b m = absurd cc
-made_in part.Block own t b m = inr m
-made_in part.RecordFieldList own t b m = inr m
+made_in part.Block own t b m = m
+made_in part.RecordFieldList own t b m = m
 made_in part.RecordExprFieldList own t b m = m
 made_in part.VariantList own t b m = m
 made_in part.MatchArmList own t b m = m
 made_in part.UseTreeList own t b m = m
 made_in part.ExternItemList own t b m = m
-made_in part.TokenTree own t b m = inr m
+made_in part.TokenTree own t b m = m
 made_in part.AssocItemList own t b m = m
-made_in part.ItemList own t b m = inr m
-
-has_part : (p : Part) (tokens own : List Record) (tree children : Forest) → in_braces p ≡ true → HasNode tokens tree own →
-    StandsIn tokens tree own (part_kind p) children → IsPartCore p own (node none (part_kind p) children)
-has_part p tokens own tree children b (inl d) s = part_made p own (made_again d s (braces_parsed_again p b))
-has_part p tokens own tree children b (inr d) s =
-    made_in p own (node none (part_kind p) children) b (table_made_again tokens own tree children (part_kind p) d.0 s d.1)
+made_in part.ItemList own t b m = m
 
 -- a node of a core tree comes out again of its own tokens
 pub part_again : (p : Part) (own : List Record) {output : Forest} → in_braces p ≡ true →
     IsPrefixOf (part_script p) own output → IsAgainItself p own output
 part_again p own b i = λ tokens tree children d s.
-    part_core p own i own [] _ (sym (append-nil own)) (has_part p tokens own tree children b d s)
+    part_core p own i own [] _ (sym (append-nil own))
+    (made_in p own (node none (part_kind p) children) b (made_again tokens own tree children (part_kind p) d.0 s d.1))

@@ -5,11 +5,10 @@ use Rattle.rap_base.specs.TokenKind.{L_PAREN, SEMICOLON}
 use Rattle.rap_events.specs.Record.{Record, next_kind}
 use Rattle.rap_events.specs.Forest.{Forest, none, node, ◌⧺◌, used}
 use Rattle.rap_grammar_scripts.specs.ThroughKnot.{expr, pattern, pattern_single, type_, meta}
-use Rattle.rap_grammar_core.specs.Derives.{Derives, Expression, Ty, Block, Contents, Many, Item, File, EndsExpression, EndsType}
 use Rattle.rap_grammar_core.specs.MacroCall.{IsMacroCall}
 use Rattle.rap_grammar_core.specs.Mixed.{IsFront}
 use Rattle.rap_grammar_table.specs.Categories as table
-use Rattle.rap_grammar_table.specs.Fronts.{any_but, MakesBefore, MakesFront}
+use Rattle.rap_grammar_table.specs.Fronts.{MakesFront}
 use Rattle.rap_grammar_table.specs.Table.{Items}
 use Rattle.rap_grammar_table.specs.Tops.{Makes, MakesRow, file_row, items_row, stmts_row}
 use Rattle.rap_grammar.specs.CoreItems.{IsItem}
@@ -44,20 +43,16 @@ IsOutputOf entry.MetaItem input output = IsTopOf meta input output
 abbrev pub IsRow : ℕ → Items → List Record → Forest → Type 0
 IsRow kind row input tree = (forest : Forest) × MakesRow row input forest × (tree ≡ node none kind forest)
 
--- The whole input is derived by the core grammar, with this tree, as the relation has it or as the table has it. Under
--- `MacroStmts` it is what may stand in the braces of a block, and under `MacroItems` any number of items, in the node of
--- the entry.
+-- The whole input is derived by the table of the core grammar, with this tree. Under `MacroStmts` it is what may stand in
+-- the braces of a block, and under `MacroItems` any number of items, in the node of the entry. So is all that the relation
+-- derives of a file, of items, of what stands in a block, of a type and of an expression: `holds_in_table`.
 abbrev pub IsCore : TopEntryPoint → List Record → Forest → Type 0
-IsCore entry.SourceFile input tree = Derives File input tree ⊎ IsRow SOURCE_FILE file_row input tree
-IsCore entry.MacroStmts input tree =
-    ((contents : Forest) × Derives Contents input contents × (tree ≡ node none MACRO_STMTS contents)) ⊎
-    IsRow MACRO_STMTS stmts_row input tree
-IsCore entry.MacroItems input tree =
-    ((items : Forest) × Derives (Many Item) input items × (tree ≡ node none MACRO_ITEMS items)) ⊎
-    IsRow MACRO_ITEMS items_row input tree
+IsCore entry.SourceFile input tree = IsRow SOURCE_FILE file_row input tree
+IsCore entry.MacroStmts input tree = IsRow MACRO_STMTS stmts_row input tree
+IsCore entry.MacroItems input tree = IsRow MACRO_ITEMS items_row input tree
 IsCore entry.Pattern input tree = Makes table.Pattern input tree
-IsCore entry.Ty input tree = Derives Ty input tree ⊎ Makes table.Ty input tree
-IsCore entry.Expr input tree = Derives Expression input tree ⊎ Makes table.Expr input tree
+IsCore entry.Ty input tree = Makes table.Ty input tree
+IsCore entry.Expr input tree = Makes table.Expr input tree
 IsCore entry.MetaItem input tree = Makes table.Meta input tree
 
 -- The whole input is a macro call in the place of an item, and this tree is the entry's node over it.
@@ -114,25 +109,21 @@ WrapsPrefix entry.Ty input output = IsTopOfPrefix prefix.Ty input output
 WrapsPrefix entry.Expr input output = IsTopOfPrefix prefix.Expr input output
 WrapsPrefix entry.MetaItem input output = IsTopOfPrefix prefix.MetaItem input output
 
--- The front of an input is derived by the core grammar, with this tree, as the relation has it or as the table has it,
--- before what can follow it. By the relation that is: an expression before the end, `;`, `,` or `)`; a type before what
--- can follow a type; an item before no semicolon; a block before anything. By the table it is what the table says of
--- the category; but an item stands before any token but a semicolon, a visibility before any but a parenthesis, and a
--- block before anything.
+-- The front of an input is derived by the table of the core grammar, with this tree, before what can follow it. That is
+-- what the table says of the category; but an item stands before any token but a semicolon, a visibility before any but a
+-- parenthesis, and a block before anything. So is a front that the relation derives as a type, an expression, an item or
+-- a block, before what the relation lets follow it: `holds_in_table`.
 abbrev pub IsPrefixCore : PrefixEntryPoint → List Record → List Record → Forest → Type 0
-IsPrefixCore prefix.Vis front rest tree = MakesBefore (any_but L_PAREN) table.Visibility front rest tree
-IsPrefixCore prefix.Block front rest tree = Derives Block front tree ⊎ Makes table.Block front tree
+IsPrefixCore prefix.Vis front rest tree = Makes table.Visibility front tree × (next_kind rest ≢ L_PAREN)
+IsPrefixCore prefix.Block front rest tree = Makes table.Block front tree
 IsPrefixCore prefix.Stmt front rest tree =
     MakesFront table.FrontStmt front rest tree ⊎ MakesFront table.LastStmt front rest tree
 IsPrefixCore prefix.Pat front rest tree = MakesFront table.SinglePattern front rest tree
 IsPrefixCore prefix.PatTop front rest tree = MakesFront table.Pattern front rest tree
-IsPrefixCore prefix.Ty front rest tree = (Derives Ty front tree × EndsType rest) ⊎ MakesFront table.Ty front rest tree
-IsPrefixCore prefix.Expr front rest tree =
-    (Derives Expression front tree × EndsExpression rest) ⊎ MakesFront table.Expr front rest tree
+IsPrefixCore prefix.Ty front rest tree = MakesFront table.Ty front rest tree
+IsPrefixCore prefix.Expr front rest tree = MakesFront table.Expr front rest tree
 IsPrefixCore prefix.Path front rest tree =
     MakesFront table.Path front rest tree ⊎
     (MakesFront table.GlobalPath front rest tree ⊎ MakesFront table.AnchoredPath front rest tree)
-IsPrefixCore prefix.Item front rest tree =
-    (Derives Item front tree × (next_kind rest ≢ SEMICOLON)) ⊎
-    MakesBefore (any_but SEMICOLON) table.Item front rest tree
+IsPrefixCore prefix.Item front rest tree = Makes table.Item front tree × (next_kind rest ≢ SEMICOLON)
 IsPrefixCore prefix.MetaItem front rest tree = MakesFront table.Meta front rest tree

@@ -1,11 +1,10 @@
 -- Which nodes can be parsed again from their own tokens, and that they are themselves again.
-use Rattle.std.specs.Prelude.{◌≡◌, ◌⊎◌, ℕ, ◌==◌, ◌&&◌, ◌||◌, if◌then◌else◌, Bool, false, List, [], ◌∷◌, length, Option, Some, None}
+use Rattle.std.specs.Prelude.{◌≡◌, ℕ, ◌==◌, ◌&&◌, ◌||◌, if◌then◌else◌, Bool, false, List, [], ◌∷◌, length, Option, Some, None}
 use Rattle.rap_base.specs.NodeKind.{BLOCK_EXPR, RECORD_FIELD_LIST, RECORD_EXPR_FIELD_LIST, VARIANT_LIST, MATCH_ARM_LIST, USE_TREE_LIST, EXTERN_ITEM_LIST, TOKEN_TREE, ASSOC_ITEM_LIST, ITEM_LIST, IMPL, TRAIT}
 use Rattle.rap_base.specs.TokenKind.{L_CURLY}
 use Rattle.rap_events.specs.Record.{Record, next_kind}
 use Rattle.rap_events.specs.Forest.{Forest, none, node}
 use Rattle.rap_grammar_scripts.specs.First.{one_of}
-use Rattle.rap_grammar_core.specs.ParsedAgain.{IsCoreTree}
 use Rattle.rap_grammar_core.specs.StandsIn.{StandsIn}
 use Rattle.rap_grammar_table.specs.Again.{IsTableTree}
 use Rattle.rap_grammar.specs.Part.{part_kind, IsWhole}
@@ -32,9 +31,10 @@ abbrev pub kind_of : Option Part → Option ℕ
 kind_of None = None
 kind_of (Some p) = Some (part_kind p)
 
--- A tree of the core grammar, as the relation has it, or as the table has it, and then this node begins with a brace.
+-- A tree of the core grammar by its table, and this node begins with a brace. A node in a tree of the relation, or in a
+-- macro call, is by its own tokens alone such a tree: `holds_in_table`.
 abbrev pub HasNode : List Record → Forest → List Record → Type 0
-HasNode tokens tree own = IsCoreTree tokens tree ⊎ (IsTableTree tokens tree × (next_kind own ≡ L_CURLY))
+HasNode tokens tree own = IsTableTree tokens tree × (next_kind own ≡ L_CURLY)
 
 -- Wherever a node of this part stands in a core tree, with these tokens as its own: the output is that node, without a
 -- message, and takes them all.

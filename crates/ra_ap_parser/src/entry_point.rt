@@ -1,7 +1,7 @@
 //! Entry points: what an input is parsed as.
-ghost use Rattle.std.specs.Prelude.{◌≡◌, ◌<◌, ◌≤◌, ◌↔◌, List, ◌++◌, length, IfOk, IsTrue, Some, true};
+ghost use Rattle.std.specs.Prelude.{◌≡◌, ◌<◌, ◌≤◌, ◌↔◌, List, ◌++◌, length, All, IfOk, IsTrue, Some, true};
 ghost use Rattle.rap_events.specs.Forest.{Forest, message_count};
-ghost use Rattle.rap_events.specs.Record.{Record};
+ghost use Rattle.rap_events.specs.Record.{Record, IsTokenRecord};
 ghost use Rattle.rap_grammar.specs.Part.{IsPrefixOver, IsWhole};
 ghost use Rattle.rap_grammar.specs.Top.{IsTreeOver};
 
@@ -43,7 +43,8 @@ impl Error for ParseFault {}
 
 /// Whether the input has more than [`MAX_TOKENS`] tokens.
 pub(crate) fn has_too_many_tokens(input: &Input) -> bool
-    ensures { IsTrue result ↔ (MAX_TOKENS < length input.now) }
+    ensures many { IsTrue result ↔ (MAX_TOKENS < length input.now) }
+    ensures tokens { All IsTokenRecord input.now }
 {
     input.len() > MAX_TOKENS
 }
@@ -91,19 +92,20 @@ impl TopEntryPoint {
     ///
     /// The error is `TooManyTokens` exactly for an input of more than [`MAX_TOKENS`] tokens, which is tested first;
     /// otherwise `NoMemory` if the allocator refused a request. The tree is that of the entry's script, and no other.
-    /// An input that the core grammar derives, by its relation or by its table of rows, gives its derivation's tree,
-    /// without a message: under `SourceFile` as a file, under `Expr` as an expression, under `Ty` as a type; by the
-    /// table alone under `Pattern` as a pattern and under `MetaItem` as what stands in the brackets of an attribute. By
-    /// the table items, fields, statements and more may have attributes and documentation, and a file a shebang and
-    /// frontmatter. Under `MacroItems` it is any number of items, and the tree is a `MACRO_ITEMS` of them; under
-    /// `MacroStmts` it is the contents of a block, and the tree is a `MACRO_STMTS` of the statements, and of the value
-    /// after them if there is one. A macro call, of a name and balanced tokens in braces, gives under `SourceFile` and
-    /// `MacroItems` the entry's node over one `MACRO_CALL`, whose `TOKEN_TREE` nests as the brackets do, without a
-    /// message. Where an input begins with items of the core grammar and with `@`, `,` and integers, in any order, the
-    /// entry's node begins under these two with the tree of each item and an `ERROR` of a message and one leaf for each
-    /// such token, whatever follows the last one. `Pattern`, `Ty`, `Expr` and `MetaItem` give what `PatTop`, `Ty`,
-    /// `Expr` and `MetaItem` of [`PrefixEntryPoint`] read, where that is one tree over the whole input, and else an
-    /// `ERROR` over it and a leaf for each token that is left.
+    /// An input that the core grammar derives gives its derivation's tree, without a message: under `SourceFile` as a
+    /// file, under `Expr` as an expression, under `Ty` as a type, under `Pattern` as a pattern and under `MetaItem` as
+    /// what stands in the brackets of an attribute. The core grammar is a table of rows; what its relation derives the
+    /// table derives too ([`holds_in_table`](crate::table_laws::holds_in_table)). Items, fields, statements and more
+    /// may have attributes and documentation, and a file a shebang and frontmatter. Under `MacroItems` it is any number
+    /// of items, and the tree is a `MACRO_ITEMS` of them; under `MacroStmts` it is the contents of a block, and the
+    /// tree is a `MACRO_STMTS` of the statements, and of the value after them if there is one. A macro call, of a name
+    /// and balanced tokens in braces, gives under `SourceFile` and `MacroItems` the entry's node over one `MACRO_CALL`,
+    /// whose `TOKEN_TREE` nests as the brackets do, without a message. Where an input begins with items of the core
+    /// grammar and with `@`, `,` and integers, in any order, the entry's node begins under these two with the tree of
+    /// each item and an `ERROR` of a message and one leaf for each such token, whatever follows the last one.
+    /// `Pattern`, `Ty`, `Expr` and `MetaItem` give what `PatTop`, `Ty`, `Expr` and `MetaItem` of [`PrefixEntryPoint`]
+    /// read, where that is one tree over the whole input, and else an `ERROR` over it and a leaf for each token that is
+    /// left.
     pub fn parse(&self, alloc: Global, input: &Input) -> Result<Output, ParseFault>
         ensures tree { IfOk result (IsTreeOver input.now) }
         ensures script { IfOk result (IsOutputOf self.now input.now) }
@@ -181,9 +183,9 @@ impl PrefixEntryPoint {
     /// exactly for an input of more than [`MAX_TOKENS`] tokens, which is tested first; otherwise `NoMemory` if the
     /// allocator refused a request. The output is that of the entry's script, and no other. If the core grammar derives
     /// a prefix of the input and the next tokens can follow it, the output is the tree of the derivation, without a
-    /// message, and takes that prefix. By the relation it may be a block, a type, an expression or an item; by the
-    /// table of rows also a pattern with or without alternatives, what stands in the brackets of an attribute, the path
-    /// of a type, a visibility, or a statement without its semicolon.
+    /// message, and takes that prefix. It may be a block, a type, an expression, an item, a pattern with or without
+    /// alternatives, what stands in the brackets of an attribute, the path of a type, a visibility, or a statement
+    /// without its semicolon.
     pub fn parse(&self, alloc: Global, input: &Input) -> Result<Output, ParseFault>
         ensures prefix { IfOk result (IsPrefixOver input.now) }
         ensures script { IfOk result (IsPrefixOutputOf self.now input.now) }

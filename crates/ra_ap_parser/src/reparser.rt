@@ -153,14 +153,14 @@ impl Reparser {
     ///
     /// If the input begins with `{`, the output is exactly one node, of the reparser's kind. Tokens after its closing
     /// brace are left. No node at the output's top ends with a float that ends in a dot: the node of such a float
-    /// stands in another node. A block, and a list of items or of a struct's fields, that the core grammar derives is
-    /// its derivation's tree again, without a message. So are by its table of rows the other lists in braces: variants,
-    /// arms, trees of a `use`, fields of a record, and items of a trait, an impl or a block of foreign items. A token
-    /// tree, whatever its tokens are as long as their brackets are balanced, is the `TOKEN_TREE` that nests as they do.
-    /// So such a node in the tree of anything that the core grammar derives, or of a macro call, is itself again when it
-    /// is parsed from its own tokens; by the table a node that begins with a brace, as a block with a label does not.
-    /// The error is `TooManyTokens` exactly for an input of more than [`MAX_TOKENS`] tokens, which is tested first;
-    /// otherwise `NoMemory` if the allocator refused a request.
+    /// stands in another node. What the core grammar derives as the node is its derivation's tree again, without a
+    /// message: a block, any list in braces that has a reparser, or a token tree, which is any tokens whose brackets
+    /// are balanced, in brackets. So such a node in the tree of anything that the core grammar derives is itself again
+    /// when it is parsed from its own tokens, if it begins with a brace, as a block with a label does not. So does each
+    /// in a tree of the grammar's relation, and in a macro call: the law
+    /// [`holds_in_table`](crate::table_laws::holds_in_table) says that its own tokens are derived. The error is
+    /// `TooManyTokens` exactly for an input of more than [`MAX_TOKENS`] tokens, which is tested first; otherwise
+    /// `NoMemory` if the allocator refused a request.
     pub fn parse(self, alloc: Global, input: &Input) -> Result<Output, ParseFault>
         requires brace { asks_brace self ≡ true → next_kind input.now ≡ L_CURLY }
         ensures prefix { IfOk result (IsPrefixOver input.now) }

@@ -1,11 +1,10 @@
 -- Items of the core grammar.
-use Rattle.std.specs.Prelude.{◌⊎◌, List}
+use Rattle.std.specs.Prelude.{List}
 use Rattle.rap_events.specs.Forest.{Forest}
 use Rattle.rap_events.specs.Record.{Record}
-use Rattle.rap_grammar_core.specs.Derives.{Derives, Item}
 use Rattle.rap_grammar_table.specs.Categories as table
 use Rattle.rap_grammar_table.specs.Tops.{Makes}
 
--- These tokens are an item with this tree, as the relation has it or as the table has it.
+-- These tokens are an item of the table with this tree. So is each item that the relation derives: `holds_in_table`.
 abbrev pub IsItem : List Record → Forest → Type 0
-IsItem tokens tree = Derives Item tokens tree ⊎ Makes table.Item tokens tree
+IsItem tokens tree = Makes table.Item tokens tree

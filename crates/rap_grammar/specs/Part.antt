@@ -1,5 +1,5 @@
 -- What is read alone from the front of an input.
-use Rattle.std.specs.Prelude.{◌≡◌, ◌⊎◌, ℕ, ◌≤◌, Bool, true, false, List, [], drop, length}
+use Rattle.std.specs.Prelude.{◌≡◌, ℕ, ◌≤◌, Bool, true, false, List, [], drop, length}
 use Rattle.rap_base.specs.NodeKind.{VISIBILITY, PATH, BLOCK_EXPR, RECORD_FIELD_LIST, RECORD_EXPR_FIELD_LIST, VARIANT_LIST, MATCH_ARM_LIST, USE_TREE_LIST, EXTERN_ITEM_LIST, TOKEN_TREE, ASSOC_ITEM_LIST, ITEM_LIST}
 use Rattle.rap_events.specs.Record.{Record}
 use Rattle.rap_events.specs.Forest.{Forest, none, node, used, message_count, one_tree}
@@ -18,8 +18,6 @@ use Rattle.rap_grammar_scripts.specs.Traits.{assoc_item_list}
 use Rattle.rap_grammar_scripts.specs.UseItem.{use_tree_list}
 use Rattle.rap_grammar_scripts.specs.Visibility.{opt_visibility}
 use Rattle.rap_grammar_scripts.specs.Words.{recur, done}
-use Rattle.rap_grammar_core.specs.Derives.{Derives, Block, Fields, Items}
-use Rattle.rap_grammar_core.specs.ParsedAgain.{IsBracketed}
 use Rattle.rap_grammar_table.specs.Categories as table
 use Rattle.rap_grammar_table.specs.Tops.{Makes}
 use Rattle.rap_grammar.specs.Top.{IsForestOver}
@@ -97,21 +95,21 @@ asks_brace part.TokenTree = true
 asks_brace part.AssocItemList = true
 asks_brace part.ItemList = true
 
--- These tokens are derived by the core grammar as this part, with this tree, as the relation has it or as the table has
--- it. A token tree's are balanced tokens in brackets, and its tree nests as these do.
+-- These tokens are derived by the table of the core grammar as this part, with this tree. So is all that the relation
+-- derives as this part, and of an input's tokens are balanced ones in brackets: `holds_in_table`.
 abbrev pub IsPartCore : Part → List Record → Forest → Type 0
 IsPartCore part.Visibility tokens tree = ⊥
 IsPartCore part.Path tokens tree = ⊥
-IsPartCore part.Block tokens tree = Derives Block tokens tree ⊎ Makes table.Block tokens tree
-IsPartCore part.RecordFieldList tokens tree = Derives Fields tokens tree ⊎ Makes table.RecordFields tokens tree
+IsPartCore part.Block tokens tree = Makes table.Block tokens tree
+IsPartCore part.RecordFieldList tokens tree = Makes table.RecordFields tokens tree
 IsPartCore part.RecordExprFieldList tokens tree = Makes table.RecordValues tokens tree
 IsPartCore part.VariantList tokens tree = Makes table.Variants tokens tree
 IsPartCore part.MatchArmList tokens tree = Makes table.MatchArms tokens tree
 IsPartCore part.UseTreeList tokens tree = Makes table.UseTrees tokens tree
 IsPartCore part.ExternItemList tokens tree = Makes table.ExternItems tokens tree
-IsPartCore part.TokenTree tokens tree = IsBracketed tokens tree ⊎ Makes table.TokenTree tokens tree
+IsPartCore part.TokenTree tokens tree = Makes table.TokenTree tokens tree
 IsPartCore part.AssocItemList tokens tree = Makes table.AssocItems tokens tree
-IsPartCore part.ItemList tokens tree = Derives Items tokens tree ⊎ Makes table.ItemList tokens tree
+IsPartCore part.ItemList tokens tree = Makes table.ItemList tokens tree
 
 -- An output that is this tree, without a message, over this many tokens at the front of the input.
 pub record IsWhole (tree : Forest) (tokens : ℕ) (output : Forest) : Type 0 where

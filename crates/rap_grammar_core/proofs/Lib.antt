@@ -3,7 +3,6 @@ pub mod Again
 pub mod AllRules
 pub mod Begins
 pub mod Built
-pub mod Complete
 pub mod DotEnds
 pub mod DotFits
 pub mod DotKeeps
@@ -12,16 +11,9 @@ pub mod DotsInNodes
 pub mod Endings
 pub mod Ends
 pub mod Example
-pub mod ItemWays
-pub mod Items
 pub mod Keeps
 pub mod Larger
-pub mod Lists
-pub mod MacroCalls
 pub mod Operators
 pub mod Recovery
 pub mod Standing
-pub mod StatementWays
-pub mod TypeWays
-pub mod Unique
 pub mod Ways

@@ -9,8 +9,7 @@ use Rattle.rap_grammar_scripts.proofs.OneEnd.{one_end}
 use Rattle.rap_events.proofs.Truth.{and_false}
 use Rattle.rap_grammar_scripts.specs.Script.{Outcome, nothing, something, block, again, Spot, Runs, Script, follows, fails, passes, obeys, loop, gives, turns, starts, stops, goes_on, abandons, skips}
 use Rattle.rap_grammar_core.proofs.Operators.{differ, differ_back}
-use Rattle.rap_grammar_core.proofs.Ways.{Leads, none-⧺, no_attributes}
-use Rattle.rap_grammar_core.proofs.ItemWays.{Goes, no_pub_way}
+use Rattle.rap_grammar_core.proofs.Ways.{Leads, Goes, none-⧺, no_attributes, no_pub_way}
 use Rattle.rap_grammar_core.proofs.Adds.{items_add}
 use Rattle.rap_grammar_scripts.specs.Attributes.{inner_attrs, is_inner_attr_start}
 use Rattle.rap_grammar_scripts.specs.Test.{holds}

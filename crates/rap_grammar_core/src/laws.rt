@@ -1,22 +1,6 @@
 //! Laws of the core grammar. Each is a function that does nothing and whose contract is the law.
-ghost use Rattle.rap_grammar_core.specs.Derives.{Block, Contents, Expression, Fields, File, Item, Items, Many, Ty};
 ghost use Rattle.rap_grammar_core.specs.Dots.{DotsAreSeen, DotsStandInNodes};
-ghost use Rattle.rap_grammar_core.specs.Laws.{HasOneTree, HoldsPlain, MakesItsNodes};
-
-/// The same tokens have at most one tree, in each category that an entry point or a reparser reads: a file, any number
-/// of items, an item, items and the fields of a struct in braces, a block and what stands in its braces, an expression,
-/// and a type.
-pub fn one_tree_each()
-    ensures file { HasOneTree File }
-    ensures items { HasOneTree (Many Item) }
-    ensures item { HasOneTree Item }
-    ensures item_list { HasOneTree Items }
-    ensures field_list { HasOneTree Fields }
-    ensures block { HasOneTree Block }
-    ensures contents { HasOneTree Contents }
-    ensures expression { HasOneTree Expression }
-    ensures type_ { HasOneTree Ty }
-{}
+ghost use Rattle.rap_grammar_core.specs.Laws.{HoldsPlain, MakesItsNodes};
 
 /// A node that is parsed again alone is made by its own tokens, wherever it stands in the tree of something that is
 /// derived, or of a macro call.

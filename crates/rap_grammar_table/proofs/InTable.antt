@@ -1,18 +1,24 @@
 -- What the core grammar derives of an input, and of what is parsed again, the table derives with the same tree.
-use Rattle.std.proofs.Common.{List, [], ◌++◌, refl, append-nil}
+use Rattle.std.proofs.Common.{ℕ, List, [], ◌∷◌, ◌++◌, refl, append-nil}
+use Rattle.rap_base.specs.TokenKind.{COMMA, EOF, EQ, L_CURLY, R_BRACK, R_CURLY, R_PAREN, SEMICOLON}
 use Rattle.rap_events.specs.Forest.{Forest, none, ◌⧺◌}
 use Rattle.rap_events.specs.Record.{Record}
 use Rattle.rap_grammar_core.specs.Derives.{Derives, File, file_of}
-use Rattle.rap_grammar_table.specs.Inclusion.{HoldsBlock, HoldsContents, HoldsExpression, HoldsFieldList, HoldsFile, HoldsItem, HoldsItemList, HoldsItems, HoldsStatements, HoldsType, InBlock, InFile, field_list_row, item_list_row}
+use Rattle.rap_grammar_table.specs.Categories.{Expr, Item, ItemList, RecordFields, Ty}
+use Rattle.rap_grammar_table.specs.Inclusion.{HoldsBlock, HoldsContents, HoldsExpression, HoldsFieldList, HoldsFile, HoldsItem, HoldsItemList, HoldsItems, HoldsStatements, HoldsType, InBlock, InFile, FollowsExpression, FollowsType}
 use Rattle.rap_grammar_table.proofs.Included.{included}
 use Rattle.rap_grammar_table.proofs.IncludedItems.{FieldsSo, fields_in, ItemsSo, items_in}
-use Rattle.rap_grammar_table.proofs.IncludedLists.{any_number}
-use Rattle.rap_grammar_table.proofs.IncludedRows.{Row, Turns, done, opens, closes, one_way, other_way, none_comes, puts_token, repeats}
+use Rattle.rap_grammar_table.proofs.IncludedLists.{AnyNumber, and_more, any_number, no_more}
+use Rattle.rap_grammar_table.proofs.IncludedRows.{Row, Turns, done, opens, closes, makes, one_way, other_way, none_comes, puts_token, repeats}
+use Rattle.rap_grammar_table.proofs.ByKind.{sees_one_of}
+use Rattle.rap_grammar_table.proofs.Known.{weaker}
 use Rattle.rap_grammar_table.proofs.IncludedStatements.{BlockSo, block_in, block_made, ContentsSo, empty, full}
 use Rattle.rap_grammar_core.proofs.Ways.{none-⧺}
+use Rattle.rap_grammar_table.specs.Notation.{of_kinds}
+use Rattle.rap_grammar_table.specs.Rows.{table}
 use Rattle.rap_grammar_table.specs.Table as rows
 use Rattle.rap_grammar_table.specs.Table.{nil, repeat}
-use Rattle.rap_grammar_table.specs.Tops.{MakesRow, stmts_row}
+use Rattle.rap_grammar_table.specs.Tops.{Makes, MakesRow, file_row, items_row, stmts_row}
 
 -- a row that stands alone, and one that is turns alone
 standing : {is : rows.Items} {ks : List Record} {t : Forest} → Row is none [] ks t → MakesRow is ks t
@@ -43,14 +49,14 @@ list_of (block_in {x = x} d) = record { list = x; node_is = refl; derives = d }
 pub statements_hold : HoldsStatements
 statements_hold ks t d = list_of (included d)
 
-item_list : {ks : List Record} {t : Forest} → ItemsSo ks t → MakesRow item_list_row ks t
-item_list (items_in o m e) = standing (opens (puts_token o (none_comes (repeats m (puts_token e (closes done))))))
+item_list : {ks : List Record} {t : Forest} → ItemsSo ks t → Makes ItemList ks t
+item_list (items_in o m e) = makes 0 refl (opens (puts_token o (none_comes (repeats m (puts_token e (closes done))))))
 
 pub item_list_holds : HoldsItemList
 item_list_holds ks t d = item_list (included d)
 
-field_list : {ks : List Record} {t : Forest} → FieldsSo ks t → MakesRow field_list_row ks t
-field_list (fields_in o m e) = standing (opens (puts_token o (repeats m (puts_token e (closes done)))))
+field_list : {ks : List Record} {t : Forest} → FieldsSo ks t → Makes RecordFields ks t
+field_list (fields_in o m e) = makes 0 refl (opens (puts_token o (repeats m (puts_token e (closes done)))))
 
 pub field_list_holds : HoldsFieldList
 field_list_holds ks t d = field_list (included d)
@@ -72,3 +78,30 @@ in_file (file_of {t = t} d) =
 
 pub file_holds : HoldsFile
 file_holds ks t d = in_file d
+
+-- one item alone as all items of a macro, and as those of a file
+one_of_number : {c : ℕ} {ks : List Record} {t : Forest} → Makes c ks t → AnyNumber (Makes c) ks t
+one_of_number {c = c} {ks = ks} {t = t} d =
+    let m : AnyNumber (Makes c) (ks ++ []) t = and_more d no_more in rw append-nil at m
+
+pub item_alone : {ks : List Record} {t : Forest} → Makes Item ks t → MakesRow items_row ks t
+item_alone d = standing (none_comes (turns_alone (any_number (one_of_number d))))
+
+pub item_in_file : {ks : List Record} {t : Forest} → Makes Item ks t → MakesRow file_row ks t
+item_in_file d = standing (other_way (other_way (none_comes (turns_alone (any_number (one_of_number d))))))
+
+-- what follows a type, and an expression
+abbrev type_ends : List ℕ
+type_ends = EOF ∷ SEMICOLON ∷ COMMA ∷ EQ ∷ R_PAREN ∷ R_BRACK ∷ R_CURLY ∷ L_CURLY ∷ []
+
+pub after_type : FollowsType
+after_type l e =
+    weaker ((of_kinds type_ends ∷ []) ∷ []) (table.follows Ty) l refl (sees_one_of type_ends type_ends l refl e.next)
+
+abbrev expression_ends : List ℕ
+expression_ends = EOF ∷ SEMICOLON ∷ COMMA ∷ R_PAREN ∷ []
+
+pub after_expression : FollowsExpression
+after_expression l e =
+    weaker ((of_kinds expression_ends ∷ []) ∷ []) (table.follows Expr) l refl
+    (sees_one_of expression_ends expression_ends l refl e.next)

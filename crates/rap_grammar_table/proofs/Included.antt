@@ -3,7 +3,7 @@ use Rattle.std.proofs.Common.{◌≡◌, ℕ, true, List, [], ◌∷◌, ◌++�
 use Rattle.rap_events.specs.Forest.{Forest, none, node}
 use Rattle.rap_events.specs.Record.{Record}
 use Rattle.rap_grammar_core.specs.Derives.{Category, Maybe, Many, Elements, Expression, Binary, Unary, Postfix, Arguments, Atom, Path, Segment, Reference, Ty, Name, Bind, Visibility, Annotation, Value, Statement, Contents, Block, WithBlock, If, Else, Item, Items, Fields, Field, Tuple, TupleField, Params, Param, Return, File, Derives, IsOperator, starts_with_block, maybe_none, maybe_some, many_none, many_more, element_last, element_comma, element_more, reference, segment, path_one, path_more, atom_literal, atom_path, atom_paren, atom_block, postfix_atom, postfix_call, postfix_index, postfix_try, postfix_field, postfix_number, postfix_method, argument_list, unary_prefix, unary_ref, unary_ref_mut, unary_postfix, binary_unary, binary_tighter, binary_operator, expression_binary, expression_assign, type_path, type_ref, type_ref_mut, type_slice, name_given, bind_name, visibility_pub, annotation_type, value_given, statement_let, statement_expression, statement_block, contents_none, contents_value, contents_block, contents_statement, contents_block_before, block_of, with_block, with_if, with_while, with_loop, if_of, else_block, else_if, item_module, item_module_of, item_struct, item_struct_fields, item_struct_tuple, item_function, items_of, fields_of, field_named, tuple_of, tuple_field, params_of, param_typed, return_type, file_of}
-use Rattle.rap_grammar_core.proofs.Begins.{First, first, single, settled_binary, block_starts}
+use Rattle.rap_grammar_core.proofs.Begins.{First, first, Single, single, settled_binary, block_starts}
 use Rattle.rap_grammar_table.proofs.IncludedExpressions as expressions
 use Rattle.rap_grammar_table.proofs.IncludedExpressions.{BinarySo, ExpressionSo}
 use Rattle.rap_grammar_table.proofs.IncludedItems as items
@@ -16,7 +16,6 @@ use Rattle.rap_grammar_table.proofs.IncludedStatements as statements
 use Rattle.rap_grammar_table.proofs.IncludedStatements.{AnnotationSo, BlockSo, ContentsSo, ElseSo, IfSo, ValueSo, WithBlockSo}
 use Rattle.rap_grammar_table.proofs.IncludedTypes as types
 use Rattle.rap_grammar_table.proofs.IncludedTypes.{TypeSo}
-use Rattle.rap_grammar_core.proofs.Ways.{Single}
 use Rattle.rap_grammar_table.specs.Categories as categories
 use Rattle.rap_grammar_table.specs.Tops.{Makes}
 
@@ -105,7 +104,7 @@ included (atom_literal h) = plain (operands.literal_atom h)
 included (atom_path d) = plain (operands.path_atom d)
 included (atom_paren o d e) = plain (operands.paren_atom o (included d).any e)
 included (atom_block d) = with_blocks (λ l. block_starts l (first d refl)) (included d)
-included (postfix_atom d) = atom_of (single d) (included d)
+included (postfix_atom d) = atom_of (single d refl) (included d)
 included (postfix_call {js = js} d n e) =
     operands.more_of js _ (λ h p. operands.call_more p n (included e)) (included d)
 included (postfix_index {a = a} {b = b} {js = js} d o e x) =
@@ -122,7 +121,7 @@ included (unary_prefix h d) = operands.prefix_operand h (included d)
 included (unary_ref o d) = operands.ref_operand o (included d)
 included (unary_ref_mut o m d) = operands.ref_mut_operand o m (included d)
 included (unary_postfix d) = operands.postfix_operand (included d)
-included (binary_unary d) = expressions.unary_binary (single d) (included d)
+included (binary_unary d) = expressions.unary_binary (single d refl) (included d)
 included (binary_tighter h i d) = expressions.tighter_binary (included d)
 included (binary_operator {os = os} {js = js} h i d o e) =
     expressions.operator_binary h i o.power_is (included d) (written_binary o (first e refl)) (included e)

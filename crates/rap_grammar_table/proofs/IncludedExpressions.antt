@@ -15,7 +15,7 @@ use Rattle.rap_grammar_table.proofs.IncludedOperators.{Written, stood, is_used}
 use Rattle.rap_grammar_table.proofs.IncludedRows.{Headed, FoldsTo, nothing_behind, behind_it, said_so, whole, Row, Folded, none_yet, one_more, rolled, done, closes, makes, puts_last}
 use Rattle.rap_grammar_table.proofs.IncludedTurns.{comes_from, from_of, in_closed, powers_of, turn_items}
 use Rattle.rap_grammar_core.proofs.Operators.{by_truth}
-use Rattle.rap_grammar_core.proofs.Ways.{Single}
+use Rattle.rap_grammar_core.proofs.Begins.{Single}
 use Rattle.rap_grammar_table.specs.Categories.{Assigned, Closed, Condition, Expr, Operand, StmtOperand}
 use Rattle.rap_grammar_table.specs.Known.{among}
 use Rattle.rap_grammar_table.specs.Operators.{all_turns, assign_turns, cast_turns, closed_turns, is_angled, operator, range_turn}

@@ -1,5 +1,6 @@
 pub mod Again
 pub mod AttributeRows
+pub mod ByKind
 pub mod ClosedRows
 pub mod Entries
 pub mod Example
@@ -11,6 +12,7 @@ pub mod Fronts
 pub mod GenericRows
 pub mod InTable
 pub mod Included
+pub mod IncludedBrackets
 pub mod IncludedExpressions
 pub mod IncludedItems
 pub mod IncludedLists
@@ -34,6 +36,7 @@ pub mod Parts
 pub mod PatternRows
 pub mod Pieces
 pub mod Refused
+pub mod RelationTree
 pub mod Rows
 pub mod Scripts
 pub mod Sound

@@ -26,7 +26,7 @@ kept_later true k j ks h = or_true (k == j) (among ks j) h
     or_true false b h = h
 kept_later false k j ks h = h
 
-among_those : (f : ℕ → Bool) (ks : List ℕ) (j : ℕ) → among ks j ≡ true → f j ≡ true → among (those f ks) j ≡ true
+pub among_those : (f : ℕ → Bool) (ks : List ℕ) (j : ℕ) → among ks j ≡ true → f j ≡ true → among (those f ks) j ≡ true
 among_those f [] j m h = absurd cc
 among_those f (k ∷ ks) j m h =
     by_or (k == j) (among ks j) m (λ e. kept_first f k j (those f ks) e h)

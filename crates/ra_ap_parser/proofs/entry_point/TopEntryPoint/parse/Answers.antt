@@ -8,7 +8,7 @@ pub returns-in-Ok-clause-core : goal.returns-in-Ok-clause-core
 returns-in-Ok-clause-core c = λ tree d. core_tree c.args.self.now _ c.in-Ok.ensures.script d
 
 pub returns-in-Ok-clause-macro_call : goal.returns-in-Ok-clause-macro_call
-returns-in-Ok-clause-macro_call c = λ tree d. call_tree c.args.self.now _ c.in-Ok.ensures.script d
+returns-in-Ok-clause-macro_call c = λ tree d. call_tree c.args.self.now _ c.has_too_many_tokens.ensures.tokens c.in-Ok.ensures.script d
 
 pub returns-in-Ok-clause-front : goal.returns-in-Ok-clause-front
 returns-in-Ok-clause-front c = front_kept c.args.self.now _ _ c.in-Ok.ensures.script
