@@ -39,10 +39,14 @@ pub mod Refused
 pub mod RelationTree
 pub mod Rows
 pub mod Scripts
+pub mod Shaped
+pub mod ShapedRows
+pub mod ShapedTrees
 pub mod Sound
 pub mod StmtRows
 pub mod Tests
 pub mod Tops
+pub mod Spells
 pub mod Turns
 pub mod TypeRows
 pub mod Values

@@ -18,6 +18,8 @@ pub mod Operators
 pub mod PatternRows
 pub mod Refusal
 pub mod Rows
+pub mod Shaped
+pub mod Shapes
 pub mod StmtRows
 pub mod Table
 pub mod Tops

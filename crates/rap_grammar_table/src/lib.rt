@@ -3,4 +3,5 @@
 #![tactic(auto)]
 
 pub mod laws;
+pub mod shape_laws;
 pub mod table_laws;

@@ -1,0 +1,70 @@
+-- The children of each node of a tree that the table derives are of a shape of its kind.
+use Rattle.std.proofs.Common.{◌≡◌, ℕ, true, false, List, [], ◌++◌, refl}
+use Rattle.rap_base.specs.NodeKind.{MACRO_ITEMS, MACRO_STMTS, SOURCE_FILE}
+use Rattle.rap_events.specs.Forest.{Forest, none, node}
+use Rattle.rap_events.specs.Record.{Record}
+use Rattle.rap_grammar_table.specs.Again.{IsTableTree, a_file, of_category, some_items, some_stmts}
+use Rattle.rap_grammar_table.specs.Rows.{entries}
+use Rattle.rap_grammar_table.specs.Shaped.{HaveShapes}
+use Rattle.rap_grammar_table.specs.Shapes.{Shape, nothing, ends, nodes_over, nodes_each, all_nodes, roots, shape_at}
+use Rattle.rap_grammar_table.specs.Table.{Items}
+use Rattle.rap_grammar_table.specs.Tops.{MakesRow, file_row, items_row, stmts_row}
+use Rattle.rap_grammar_table.proofs.Shaped.{AllSo, OfChildren, RowsFit, found, shaped}
+use Rattle.rap_grammar_table.proofs.ShapedRows.{AllHave, HasOne, entries_so, have_all, have_left, have_right, part_so, rows_fit, whole_fits}
+
+rows_so : entries_so (shape_at roots) (shape_at roots) entries ≡ true
+rows_so = refl
+
+-- what stands under the node of an entry
+top_so : (f : ℕ → Shape) (H : OfChildren) (kind : ℕ) (row : Items) {ks : List Record} {y : Forest} → RowsFit f H →
+    AllHave H (nodes_over f kind row) → part_so f false nothing [] row ≡ true → MakesRow row ks y →
+    AllSo H (node none kind y)
+top_so f H kind row {y = y} r o h d =
+    let q = shaped r d.derives (ends f nothing [] row) (whole_fits f H row o.1 h) tt tt in
+    (tt, q.0, o.0 _ q.1)
+
+-- the nodes under each entry's node, and behind these those of the others and of all rows
+abbrev of_kind : ℕ → Items → List (ℕ × Shape)
+of_kind kind row = nodes_over (shape_at roots) kind row
+
+abbrev of_entries : List (ℕ × Shape)
+of_entries = nodes_each (shape_at roots) entries
+
+abbrev from_stmts : List (ℕ × Shape)
+from_stmts = of_kind MACRO_STMTS stmts_row ++ of_entries
+
+abbrev from_items : List (ℕ × Shape)
+from_items = of_kind MACRO_ITEMS items_row ++ from_stmts
+
+abbrev Known : OfChildren
+Known = HasOne all_nodes
+
+known_files : AllHave Known (of_kind SOURCE_FILE file_row)
+known_files = have_left Known (of_kind SOURCE_FILE file_row) from_items (have_all all_nodes)
+
+known_from_items : AllHave Known from_items
+known_from_items = have_right Known (of_kind SOURCE_FILE file_row) from_items (have_all all_nodes)
+
+known_items : AllHave Known (of_kind MACRO_ITEMS items_row)
+known_items = have_left Known (of_kind MACRO_ITEMS items_row) from_stmts known_from_items
+
+known_from_stmts : AllHave Known from_stmts
+known_from_stmts = have_right Known (of_kind MACRO_ITEMS items_row) from_stmts known_from_items
+
+known_stmts : AllHave Known (of_kind MACRO_STMTS stmts_row)
+known_stmts = have_left Known (of_kind MACRO_STMTS stmts_row) of_entries known_from_stmts
+
+known_entries : AllHave Known of_entries
+known_entries = have_right Known (of_kind MACRO_STMTS stmts_row) of_entries known_from_stmts
+
+table_fits : RowsFit (shape_at roots) Known
+table_fits = rows_fit (shape_at roots) Known entries known_entries rows_so
+
+tree_so : {ks : List Record} {t : Forest} → IsTableTree ks t → AllSo Known t
+tree_so (of_category d) = (shaped table_fits d).0
+tree_so (a_file d) = top_so (shape_at roots) Known SOURCE_FILE file_row table_fits known_files refl d
+tree_so (some_items d) = top_so (shape_at roots) Known MACRO_ITEMS items_row table_fits known_items refl d
+tree_so (some_stmts d) = top_so (shape_at roots) Known MACRO_STMTS stmts_row table_fits known_stmts refl d
+
+pub have_shapes : HaveShapes
+have_shapes kind tokens tree children place d p = found Known p (tree_so d)

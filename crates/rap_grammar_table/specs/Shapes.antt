@@ -1,0 +1,202 @@
+-- What the children of each node of the table's trees are, by their kinds: a shape for each way to write such a node.
+use Rattle.std.specs.Prelude.{◌==◌, ℕ, zero, suc, Bool, true, false, List, [], ◌∷◌, ◌++◌, ◌≡◌, ◌⊎◌}
+use Rattle.rap_base.specs.NodeKind.{MACRO_ITEMS, MACRO_STMTS, SOURCE_FILE}
+use Rattle.rap_events.specs.Forest.{Forest, none, node, leaf, message, split}
+use Rattle.rap_grammar_table.specs.Known.{among}
+use Rattle.rap_grammar_table.specs.Notation.{Entry}
+use Rattle.rap_grammar_table.specs.Rows.{entries}
+use Rattle.rap_grammar_table.specs.Table.{Piece, tok, word, comp, cat, Items, nil, begin, close, piece, choice, repeat, turns_of, group, folds, folding, way, unless}
+use Rattle.rap_grammar_table.specs.Tops.{file_row, items_row, stmts_row}
+
+-- A child: a leaf or a node of this kind, a message, or a float that is taken apart.
+pub data Child : Type 0 where
+  leaf_child : ℕ → Child
+  node_child : ℕ → Child
+  message_child : Child
+  float_child : Child
+
+abbrev pub children_of : Forest → List Child
+children_of none = []
+children_of (node before kind children) = children_of before ++ node_child kind ∷ []
+children_of (leaf before kind width) = children_of before ++ leaf_child kind ∷ []
+children_of (message before bytes) = children_of before ++ message_child ∷ []
+children_of (split before ends_in_dot) = children_of before ++ float_child ∷ []
+
+-- Nothing; a leaf or a node of one of these kinds; one after another; one of two; any number of one.
+infixl 5 ◌⋅◌
+infixl 4 ◌or◌
+pub data Shape : Type 0 where
+  nothing : Shape
+  leaf_of : List ℕ → Shape
+  node_of : List ℕ → Shape
+  ◌⋅◌ : Shape → Shape → Shape
+  ◌or◌ : Shape → Shape → Shape
+  any_of : Shape → Shape
+
+-- these children, in order, are of this shape
+pub data Spells : Shape → List Child → Type 0 where
+  no_child : Spells nothing []
+  a_leaf : {kinds : List ℕ} {kind : ℕ} → among kinds kind ≡ true → Spells (leaf_of kinds) (leaf_child kind ∷ [])
+  a_node : {kinds : List ℕ} {kind : ℕ} → among kinds kind ≡ true → Spells (node_of kinds) (node_child kind ∷ [])
+  in_order : {a b : Shape} {cs ds : List Child} → Spells a cs → Spells b ds → Spells (a ⋅ b) (cs ++ ds)
+  by_first : {a b : Shape} {cs : List Child} → Spells a cs → Spells (a or b) cs
+  by_second : {a b : Shape} {cs : List Child} → Spells b cs → Spells (a or b) cs
+  no_more : {a : Shape} → Spells (any_of a) []
+  one_more : {a : Shape} {cs ds : List Child} → Spells a cs → Spells (any_of a) ds → Spells (any_of a) (cs ++ ds)
+
+-- of one of these shapes
+abbrev pub SpellsOne : List Shape → List Child → Type 0
+SpellsOne [] cs = ⊥
+SpellsOne (s ∷ ss) cs = Spells s cs ⊎ SpellsOne ss cs
+
+-- kinds of both lists, each once
+abbrev pub added_if : Bool → ℕ → List ℕ → List ℕ
+added_if true k ks = ks
+added_if false k ks = k ∷ ks
+
+abbrev pub joined : List ℕ → List ℕ → List ℕ
+joined [] js = js
+joined (k ∷ ks) js = added_if (among js k) k (joined ks js)
+
+-- one after another, one of two, and turns before what stands last, each written shortly
+abbrev pub after : Shape → Shape → Shape
+after nothing b = b
+after a b = a ⋅ b
+
+abbrev pub either_of : Shape → Shape → Shape
+either_of (leaf_of ks) (leaf_of js) = leaf_of (joined ks js)
+either_of (node_of ks) (node_of js) = node_of (joined ks js)
+either_of a b = a or b
+
+abbrev pub turns : Shape → Shape → Shape
+turns a nothing = any_of a
+turns a z = any_of a ⋅ z
+
+-- what stands last, and another in its place
+abbrev pub last_of : Shape → Shape
+last_of (a ⋅ b) = b
+last_of a = a
+
+abbrev pub with_last : Shape → Shape → Shape
+with_last (a ⋅ b) l = a ⋅ l
+with_last a l = l
+
+-- a piece, where a category is of this shape
+abbrev pub piece_shape : (ℕ → Shape) → Piece → Shape
+piece_shape f (tok kinds words) = leaf_of kinds
+piece_shape f (word kind) = leaf_of (kind ∷ [])
+piece_shape f (comp kind) = leaf_of (kind ∷ [])
+piece_shape f (cat category) = f category
+
+-- The tree of a row, one leaf or one node: what stands last in it outside of its nodes, of which so many are open. Of
+-- turns, what they end, or what they are put around.
+abbrev pub root : (ℕ → Shape) → ℕ → Shape → Items → Shape
+root f n x nil = x
+root f n x (begin a) = root f (suc n) x a
+root f zero x (close k a) = root f zero x a
+root f (suc zero) x (close k a) = root f zero (node_of (k ∷ [])) a
+root f (suc (suc n)) x (close k a) = root f (suc n) x a
+root f zero x (piece p a) = root f zero (piece_shape f p) a
+root f (suc n) x (piece p a) = root f (suc n) x a
+root f n x (choice a b c) = root f n x c
+root f n x (repeat a z c) = root f n x c
+root f n x (turns_of a z) = x
+root f n x (group a c) = root f n x c
+root f zero x (folds m ws c) = root f zero (root f zero x ws) c
+root f (suc n) x (folds m ws c) = root f (suc n) x c
+root f n x (folding m ws) = x
+root f n x (way js a m ws) = either_of (root f (suc zero) nothing a) (root f n x ws)
+root f n x (unless h w a) = root f n x a
+
+-- of a category by its rows, and of all, where a row that begins with a category is as deep as this
+abbrev pub roots_by : (ℕ → Shape) → List Items → Shape
+roots_by f [] = node_of []
+roots_by f (r ∷ []) = root f zero nothing r
+roots_by f (r ∷ q ∷ rs) = either_of (root f zero nothing r) (roots_by f (q ∷ rs))
+
+abbrev pub shape_at : List Shape → ℕ → Shape
+shape_at [] n = node_of []
+shape_at (s ∷ ss) zero = s
+shape_at (s ∷ ss) (suc n) = shape_at ss n
+
+abbrev pub roots_each : (ℕ → Shape) → List Entry → List Shape
+roots_each f [] = []
+roots_each f (e ∷ es) = roots_by f e.rows ∷ roots_each f es
+
+abbrev pub roots_after : ℕ → List Entry → List Shape
+roots_after zero es = []
+roots_after (suc n) es = roots_each (shape_at (roots_after n es)) es
+
+abbrev pub roots : List Shape
+roots = roots_after 6 entries
+
+-- What stands in the newest open node at the end of a part of a row, where this stands before the part, and these in
+-- the older ones. Of turns as above.
+abbrev pub ends : (ℕ → Shape) → Shape → List Shape → Items → Shape
+ends f x xs nil = x
+ends f x xs (begin a) = ends f nothing (x ∷ xs) a
+ends f x [] (close k a) = ends f x [] a
+ends f x (z ∷ zs) (close k a) = ends f (after z (node_of (k ∷ []))) zs a
+ends f x xs (piece p a) = ends f (after x (piece_shape f p)) xs a
+ends f x xs (choice a b c) = ends f (after x (either_of (ends f nothing [] a) (ends f nothing [] b))) xs c
+ends f x xs (repeat a z c) = ends f (after x (turns (ends f nothing [] a) (ends f nothing [] z))) xs c
+ends f x xs (turns_of a z) = x
+ends f x xs (group a c) = ends f (after x (ends f nothing [] a)) xs c
+ends f x xs (folds n ws c) = ends f (with_last x (ends f (last_of x) [] ws)) xs c
+ends f x xs (folding n ws) = x
+ends f x xs (way js a m ws) = either_of (ends f nothing (nothing ∷ []) a) (ends f x xs ws)
+ends f x xs (unless h w a) = ends f x xs a
+
+-- the nodes in such a part: the kind of each, and what stands in it
+abbrev pub nodes_in : (ℕ → Shape) → Shape → List Shape → Items → List (ℕ × Shape)
+nodes_in f x xs nil = []
+nodes_in f x xs (begin a) = nodes_in f nothing (x ∷ xs) a
+nodes_in f x [] (close k a) = nodes_in f x [] a
+nodes_in f x (z ∷ zs) (close k a) = (k, x) ∷ nodes_in f (after z (node_of (k ∷ []))) zs a
+nodes_in f x xs (piece p a) = nodes_in f (after x (piece_shape f p)) xs a
+nodes_in f x xs (choice a b c) =
+    nodes_in f nothing [] a ++
+    (nodes_in f nothing [] b ++
+    nodes_in f (after x (either_of (ends f nothing [] a) (ends f nothing [] b))) xs c)
+nodes_in f x xs (repeat a z c) =
+    nodes_in f nothing [] a ++
+    (nodes_in f nothing [] z ++ nodes_in f (after x (turns (ends f nothing [] a) (ends f nothing [] z))) xs c)
+nodes_in f x xs (turns_of a z) = []
+nodes_in f x xs (group a c) = nodes_in f nothing [] a ++ nodes_in f (after x (ends f nothing [] a)) xs c
+nodes_in f x xs (folds n ws c) =
+    nodes_in f (ends f (last_of x) [] ws) [] ws ++ nodes_in f (with_last x (ends f (last_of x) [] ws)) xs c
+nodes_in f x xs (folding n ws) = []
+nodes_in f x xs (way js a m ws) = nodes_in f x (nothing ∷ []) a ++ nodes_in f x xs ws
+nodes_in f x xs (unless h w a) = nodes_in f x xs a
+
+-- in all rows, and in the rows of the entries, with the nodes over these
+abbrev pub nodes_by : (ℕ → Shape) → List Items → List (ℕ × Shape)
+nodes_by f [] = []
+nodes_by f (r ∷ rs) = nodes_in f nothing [] r ++ nodes_by f rs
+
+abbrev pub nodes_each : (ℕ → Shape) → List Entry → List (ℕ × Shape)
+nodes_each f [] = []
+nodes_each f (e ∷ es) = nodes_by f e.rows ++ nodes_each f es
+
+abbrev pub nodes_over : (ℕ → Shape) → ℕ → Items → List (ℕ × Shape)
+nodes_over f kind row = (kind, ends f nothing [] row) ∷ nodes_in f nothing [] row
+
+abbrev pub nodes_of_all : (ℕ → Shape) → List (ℕ × Shape)
+nodes_of_all f =
+    nodes_over f SOURCE_FILE file_row ++
+    (nodes_over f MACRO_ITEMS items_row ++ (nodes_over f MACRO_STMTS stmts_row ++ nodes_each f entries))
+
+abbrev pub all_nodes : List (ℕ × Shape)
+all_nodes = nodes_of_all (shape_at roots)
+
+-- the shapes of the nodes of a kind
+abbrev pub kept_if : Bool → Shape → List Shape → List Shape
+kept_if true s ss = s ∷ ss
+kept_if false s ss = ss
+
+abbrev pub shapes_among : ℕ → List (ℕ × Shape) → List Shape
+shapes_among kind [] = []
+shapes_among kind (row ∷ rows) = kept_if (row.0 == kind) row.1 (shapes_among kind rows)
+
+abbrev pub shapes : ℕ → List Shape
+shapes kind = shapes_among kind all_nodes
