@@ -2,6 +2,7 @@ pub mod Again
 pub mod AttributeRows
 pub mod ByKind
 pub mod ClosedRows
+pub mod Counts
 pub mod Entries
 pub mod Example
 pub mod Exposes

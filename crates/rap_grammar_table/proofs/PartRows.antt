@@ -6,15 +6,11 @@ use Rattle.rap_grammar_table.specs.Again.{category_in, parsed_again}
 use Rattle.rap_grammar_table.specs.Categories.{AssocItems, Attr, Block, ExternItems, ItemList, MatchArms, RecordFields, RecordValues, TokenTree, UseTrees, Variants}
 use Rattle.rap_grammar_table.specs.Known.{among}
 use Rattle.rap_grammar_table.specs.Rows.{table}
+use Rattle.rap_grammar_table.specs.Shapes.{same_kinds}
 use Rattle.rap_grammar_table.specs.Table.{Piece, tok, word, comp, cat, Items, nil, begin, close, piece, choice, repeat, turns_of, group, folds, folding, way, unless, appended, row_at}
 use Rattle.rap_grammar_table.proofs.Known.{same_number}
 
--- the same kinds, words, pieces, and parts of rows
-abbrev pub same_kinds : List ℕ → List ℕ → Bool
-same_kinds [] [] = true
-same_kinds (k ∷ ks) (j ∷ js) = (k == j) && same_kinds ks js
-same_kinds ks js = false
-
+-- the same words, pieces, and parts of rows
 abbrev pub same_words : Option (List ℕ) → Option (List ℕ) → Bool
 same_words None None = true
 same_words (Some ks) (Some js) = same_kinds ks js
@@ -36,7 +32,7 @@ same_items (choice a b c) (choice x y z) = same_items a x && (same_items b y && 
 same_items (repeat a b c) (repeat x y z) = same_items a x && (same_items b y && same_items c z)
 same_items a b = false
 
-same_kinds_so : (ks js : List ℕ) → same_kinds ks js ≡ true → ks ≡ js
+pub same_kinds_so : (ks js : List ℕ) → same_kinds ks js ≡ true → ks ≡ js
 same_kinds_so [] [] h = refl
 same_kinds_so (k ∷ ks) (j ∷ js) h =
     rw (same_number k j (and_left (k == j) _ h), same_kinds_so ks js (and_right (k == j) _ h)) refl

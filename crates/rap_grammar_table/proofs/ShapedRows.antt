@@ -1,12 +1,14 @@
 -- The rows of the table fit the shapes of the nodes in them.
-use Rattle.std.proofs.Common.{◌≡◌, ◌==◌, ◌&&◌, inl, inr, ℕ, zero, suc, Bool, true, false, List, [], ◌∷◌, ◌++◌, Some, refl, subst, ap}
+use Rattle.std.proofs.Common.{◌≡◌, ◌==◌, ◌&&◌, ◌⊎◌, inl, inr, ℕ, zero, suc, Bool, true, false, List, [], ◌∷◌, ◌++◌, Some, refl, subst, ap}
 use Rattle.rap_events.proofs.Truth.{and_left, and_right, or_left}
 use Rattle.rap_events.specs.Forest.{Forest, none, node, ◌⧺◌}
 use Rattle.rap_grammar_scripts.proofs.Forests.{⧺-assoc}
 use Rattle.rap_grammar_table.specs.Notation.{Entry, entry_at}
-use Rattle.rap_grammar_table.specs.Shapes.{Child, node_child, children_of, Shape, nothing, node_of, Spells, no_child, a_node, either_of, after, turns, last_of, with_last, piece_shape, ends, nodes_in, nodes_by, nodes_each, kept_if, shapes_among, SpellsOne}
+use Rattle.rap_grammar_table.specs.Shapes.{Child, node_child, children_of, Shape, nothing, leaf_of, node_of, ◌⋅◌, ◌or◌, any_of, Spells, no_child, a_node, by_first, by_second, either_of, after, turns, last_of, with_last, piece_shape, ends, nodes_in, nodes_by, nodes_each, same_shape, is_in, unless_in, with_shape, shapes_among, any_shape}
 use Rattle.rap_grammar_table.specs.Table.{Items, nil, begin, close, piece, choice, repeat, turns_of, group, folds, folding, way, unless, appended, HasWay, first_turn, other_turn, row_at}
+use Rattle.rap_grammar_table.proofs.Known.{by_or}
 use Rattle.rap_grammar_table.proofs.Look.{same_self}
+use Rattle.rap_grammar_table.proofs.PartRows.{same_kinds_so}
 use Rattle.rap_grammar_table.proofs.Shaped.{OfChildren, Fits, fits_nil, fits_begin, fits_close, fits_piece, fits_choice, fits_repeat, fits_turns, fits_group, fits_folds, fits_unless, RowFits}
 use Rattle.rap_grammar_table.proofs.Entries.{all_rows, of_all}
 use Rattle.rap_grammar_table.proofs.Spells.{is_node, last_in, spells_first, spells_on, spells_second, within, within_so}
@@ -260,17 +262,56 @@ rows_fit f H es o h c n row e =
       is_within = and_right (part_so f false nothing [] row) _ i;
     }
 
+-- The children are of one of these shapes: of any of them.
+abbrev pub SpellsOne : List Shape → List Child → Type 0
+SpellsOne [] cs = ⊥
+SpellsOne (s ∷ ss) cs = Spells s cs ⊎ SpellsOne ss cs
+
+pub spells_any : (ss : List Shape) {cs : List Child} → SpellsOne ss cs → Spells (any_shape ss) cs
+spells_any [] t = absurd t
+spells_any (s ∷ []) (inl t) = t
+spells_any (s ∷ []) (inr t) = absurd t
+spells_any (s ∷ r ∷ ss) (inl t) = by_first t
+spells_any (s ∷ r ∷ ss) (inr t) = by_second (spells_any (r ∷ ss) t)
+
+same_shape_so : (a b : Shape) → same_shape a b ≡ true → a ≡ b
+same_shape_so nothing nothing h = refl
+same_shape_so (leaf_of ks) (leaf_of js) h = ap (λ (x : List ℕ). leaf_of x) (same_kinds_so ks js h)
+same_shape_so (node_of ks) (node_of js) h = ap (λ (x : List ℕ). node_of x) (same_kinds_so ks js h)
+same_shape_so (a ⋅ b) (x ⋅ y) h =
+    rw (same_shape_so a x (and_left (same_shape a x) _ h), same_shape_so b y (and_right (same_shape a x) _ h)) refl
+same_shape_so (a or b) (x or y) h =
+    rw (same_shape_so a x (and_left (same_shape a x) _ h), same_shape_so b y (and_right (same_shape a x) _ h)) refl
+same_shape_so (any_of a) (any_of x) h = ap (λ (y : Shape). any_of y) (same_shape_so a x h)
+same_shape_so a b h = absurd cc
+
+of_in : (s : Shape) (ss : List Shape) (cs : List Child) → is_in s ss ≡ true → Spells s cs → SpellsOne ss cs
+of_in s [] cs h t = absurd cc
+of_in s (r ∷ rs) cs h t =
+    by_or (same_shape s r) (is_in s rs) h
+    (λ i. inl (subst (λ (x : Shape). Spells x cs) (same_shape_so s r i) t)) (λ i. inr (of_in s rs cs i t))
+
 -- Each of some nodes has a shape of its kind.
 abbrev pub HasOne : List (ℕ × Shape) → OfChildren
 HasOne rows kind cs = SpellsOne (shapes_among kind rows) cs
 
-kept : (b : Bool) (s : Shape) (ss : List Shape) (cs : List Child) → SpellsOne ss cs → SpellsOne (kept_if b s ss) cs
-kept true s ss cs t = inr t
+kept_old : (b : Bool) (s : Shape) (ss : List Shape) (cs : List Child) → SpellsOne ss cs →
+    SpellsOne (unless_in b s ss) cs
+kept_old true s ss cs t = t
+kept_old false s ss cs t = inr t
+
+kept : (b : Bool) (s : Shape) (ss : List Shape) (cs : List Child) → SpellsOne ss cs → SpellsOne (with_shape b s ss) cs
+kept true s ss cs t = kept_old (is_in s ss) s ss cs t
 kept false s ss cs t = t
 
+kept_new : (b : Bool) (s : Shape) (ss : List Shape) (cs : List Child) → (b ≡ true → SpellsOne ss cs) → Spells s cs →
+    SpellsOne (unless_in b s ss) cs
+kept_new true s ss cs g t = g refl
+kept_new false s ss cs g t = inl t
+
 kept_this : (b : Bool) (s : Shape) (ss : List Shape) (cs : List Child) → b ≡ true → Spells s cs →
-    SpellsOne (kept_if b s ss) cs
-kept_this true s ss cs e t = inl t
+    SpellsOne (with_shape b s ss) cs
+kept_this true s ss cs e t = kept_new (is_in s ss) s ss cs (λ h. of_in s ss cs h t) t
 kept_this false s ss cs e t = absurd cc
 
 have_among : (rows ns : List (ℕ × Shape)) → ((kind : ℕ) (cs : List Child) → HasOne ns kind cs → HasOne rows kind cs) →

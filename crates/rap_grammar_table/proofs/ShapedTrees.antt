@@ -6,11 +6,11 @@ use Rattle.rap_events.specs.Record.{Record}
 use Rattle.rap_grammar_table.specs.Again.{IsTableTree, a_file, of_category, some_items, some_stmts}
 use Rattle.rap_grammar_table.specs.Rows.{entries}
 use Rattle.rap_grammar_table.specs.Shaped.{HaveShapes}
-use Rattle.rap_grammar_table.specs.Shapes.{Shape, nothing, ends, nodes_over, nodes_each, all_nodes, roots, shape_at}
+use Rattle.rap_grammar_table.specs.Shapes.{Shape, nothing, ends, nodes_over, nodes_each, all_nodes, roots, shape_at, shapes_among}
 use Rattle.rap_grammar_table.specs.Table.{Items}
 use Rattle.rap_grammar_table.specs.Tops.{MakesRow, file_row, items_row, stmts_row}
 use Rattle.rap_grammar_table.proofs.Shaped.{AllSo, OfChildren, RowsFit, found, shaped}
-use Rattle.rap_grammar_table.proofs.ShapedRows.{AllHave, HasOne, entries_so, have_all, have_left, have_right, part_so, rows_fit, whole_fits}
+use Rattle.rap_grammar_table.proofs.ShapedRows.{AllHave, HasOne, entries_so, have_all, have_left, have_right, part_so, rows_fit, spells_any, whole_fits}
 
 rows_so : entries_so (shape_at roots) (shape_at roots) entries ≡ true
 rows_so = refl
@@ -67,4 +67,4 @@ tree_so (some_items d) = top_so (shape_at roots) Known MACRO_ITEMS items_row tab
 tree_so (some_stmts d) = top_so (shape_at roots) Known MACRO_STMTS stmts_row table_fits known_stmts refl d
 
 pub have_shapes : HaveShapes
-have_shapes kind tokens tree children place d p = found Known p (tree_so d)
+have_shapes kind tokens tree children place d p = spells_any (shapes_among kind all_nodes) (found Known p (tree_so d))

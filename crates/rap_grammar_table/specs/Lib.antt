@@ -3,6 +3,7 @@ pub mod AttributeRows
 pub mod Built
 pub mod Categories
 pub mod ExprRows
+pub mod Counts
 pub mod Fronts
 pub mod GenericRows
 pub mod Good

@@ -1,5 +1,5 @@
--- What the children of each node of the table's trees are, by their kinds: a shape for each way to write such a node.
-use Rattle.std.specs.Prelude.{◌==◌, ℕ, zero, suc, Bool, true, false, List, [], ◌∷◌, ◌++◌, ◌≡◌, ◌⊎◌}
+-- What the children of each node of the table's trees are, by their kinds: a shape for each kind, from the rows.
+use Rattle.std.specs.Prelude.{◌==◌, ◌&&◌, ◌||◌, ℕ, zero, suc, Bool, true, false, List, [], ◌∷◌, ◌++◌, ◌≡◌}
 use Rattle.rap_base.specs.NodeKind.{MACRO_ITEMS, MACRO_STMTS, SOURCE_FILE}
 use Rattle.rap_events.specs.Forest.{Forest, none, node, leaf, message, split}
 use Rattle.rap_grammar_table.specs.Known.{among}
@@ -43,11 +43,6 @@ pub data Spells : Shape → List Child → Type 0 where
   by_second : {a b : Shape} {cs : List Child} → Spells b cs → Spells (a or b) cs
   no_more : {a : Shape} → Spells (any_of a) []
   one_more : {a : Shape} {cs ds : List Child} → Spells a cs → Spells (any_of a) ds → Spells (any_of a) (cs ++ ds)
-
--- of one of these shapes
-abbrev pub SpellsOne : List Shape → List Child → Type 0
-SpellsOne [] cs = ⊥
-SpellsOne (s ∷ ss) cs = Spells s cs ⊎ SpellsOne ss cs
 
 -- kinds of both lists, each once
 abbrev pub added_if : Bool → ℕ → List ℕ → List ℕ
@@ -189,14 +184,42 @@ nodes_of_all f =
 abbrev pub all_nodes : List (ℕ × Shape)
 all_nodes = nodes_of_all (shape_at roots)
 
--- the shapes of the nodes of a kind
-abbrev pub kept_if : Bool → Shape → List Shape → List Shape
-kept_if true s ss = s ∷ ss
-kept_if false s ss = ss
+-- the same kinds, the same shapes, and shapes of which each stands once
+abbrev pub same_kinds : List ℕ → List ℕ → Bool
+same_kinds [] [] = true
+same_kinds (k ∷ ks) (j ∷ js) = (k == j) && same_kinds ks js
+same_kinds ks js = false
 
+abbrev pub same_shape : Shape → Shape → Bool
+same_shape nothing nothing = true
+same_shape (leaf_of ks) (leaf_of js) = same_kinds ks js
+same_shape (node_of ks) (node_of js) = same_kinds ks js
+same_shape (a ⋅ b) (x ⋅ y) = same_shape a x && same_shape b y
+same_shape (a or b) (x or y) = same_shape a x && same_shape b y
+same_shape (any_of a) (any_of x) = same_shape a x
+same_shape a b = false
+
+abbrev pub is_in : Shape → List Shape → Bool
+is_in s [] = false
+is_in s (r ∷ rs) = same_shape s r || is_in s rs
+
+abbrev pub unless_in : Bool → Shape → List Shape → List Shape
+unless_in true s ss = ss
+unless_in false s ss = s ∷ ss
+
+abbrev pub with_shape : Bool → Shape → List Shape → List Shape
+with_shape true s ss = unless_in (is_in s ss) s ss
+with_shape false s ss = ss
+
+-- The shapes of the nodes of a kind; and its shape, any of these. Of a kind that no row has there is none.
 abbrev pub shapes_among : ℕ → List (ℕ × Shape) → List Shape
 shapes_among kind [] = []
-shapes_among kind (row ∷ rows) = kept_if (row.0 == kind) row.1 (shapes_among kind rows)
+shapes_among kind (row ∷ rows) = with_shape (row.0 == kind) row.1 (shapes_among kind rows)
 
-abbrev pub shapes : ℕ → List Shape
-shapes kind = shapes_among kind all_nodes
+abbrev pub any_shape : List Shape → Shape
+any_shape [] = node_of []
+any_shape (s ∷ []) = s
+any_shape (s ∷ r ∷ ss) = s or any_shape (r ∷ ss)
+
+abbrev pub shape : ℕ → Shape
+shape kind = any_shape (shapes_among kind all_nodes)
