@@ -3,8 +3,9 @@
 //! [`LexedStr::new`] divides a text into tokens, [`LexedStr::to_input`] leaves the trivia out,
 //! [`TopEntryPoint::parse`] parses what is left, and [`LexedStr::intersperse_trivia`] passes the tree, with the
 //! texts and the trivia put back, to a [`StrSink`]. [`parse_text`] is all of that in one call, and [`parse_tokens`] all
-//! but the last. [`frontmatter`] divides a script source into its parts. [`laws`] and [`table_laws`] have the laws of
-//! the core grammar, for which the tree is proved: of its relation and of its table of rows.
+//! but the last. [`frontmatter`] divides a script source into its parts. [`laws`], [`table_laws`] and [`shape_laws`] have
+//! the laws of the core grammar, for which the tree is proved: of its relation, of its table of rows, and of the
+//! children of each node.
 #![tactic(auto)]
 
 mod closed;
@@ -21,7 +22,7 @@ pub use rap_events::input::Input;
 pub use rap_events::output::{Output, Step, Steps};
 pub use rap_frontmatter::frontmatter;
 pub use rap_grammar::entry::is_one_tree;
-pub use rap_grammar_table::{laws, table_laws};
+pub use rap_grammar_table::{laws, shape_laws, table_laws};
 pub use rap_lexed::lexed_str::{Errors, LexFault, LexedStr, MAX_TEXT};
 pub use rap_lexed::shortcuts::{StrSink, StrStep};
 pub use reparser::Reparser;
