@@ -184,7 +184,8 @@ mutual
       let r = last_within (and_left (is_node (last_of x)) _ i) w in
       rw r.tree_is
       (fits_folds
-      (λ js a m v u s. fit_turns ws (have_left H (nodes_in f l [] ws) _ o) (and_left (part_so f true l [] ws) _ j) v u s)
+      (λ js a m v u s. fit_turns ws (have_left H (nodes_in f l [] ws) _ o) (and_left (part_so f true l [] ws) _ j) v u
+      s)
       (within_so (last_of x) l (and_right (is_node (last_of x)) _ i) r.is_last)
       (λ u s. fits_part c is (r.others u s) (have_right H (nodes_in f l [] ws) _ o)
       (and_right (part_so f true l [] ws) _ j) k))

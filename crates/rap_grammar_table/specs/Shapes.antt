@@ -103,7 +103,9 @@ root f n x (folding m ws) = x
 root f n x (way js a m ws) = either_of (root f (suc zero) nothing a) (root f n x ws)
 root f n x (unless h w a) = root f n x a
 
--- of a category by its rows, and of all, where a row that begins with a category is as deep as this
+-- The tree of a category, by its rows; and those of all, after so many rounds, each of which takes what the round
+-- before it found where a row is a category alone or has turns behind one. No row takes more than six: it is computed
+-- that each row is within its category's.
 abbrev pub roots_by : (ℕ → Shape) → List Items → Shape
 roots_by f [] = node_of []
 roots_by f (r ∷ []) = root f zero nothing r
