@@ -4,7 +4,8 @@ use Rattle.rap_base.specs.NodeKind.{RECORD_FIELD_LIST, RECORD_EXPR_FIELD_LIST, V
 use Rattle.rap_base.specs.TokenKind.{L_CURLY, L_PAREN, SEMICOLON}
 use Rattle.rap_events.specs.Record.{Record, IsTokenRecord, next_kind}
 use Rattle.rap_events.specs.Forest.{Forest, none, node, message_count, one_tree}
-use Rattle.rap_grammar.proofs.Outputs.{begun_file, begun_items, one_output, one_root}
+use Rattle.rap_grammar.proofs.Heads.{begun_file, begun_items}
+use Rattle.rap_grammar.proofs.Outputs.{one_output, one_root}
 use Rattle.rap_grammar.specs.Part.{IsPrefixOf, IsPartCore, IsWhole, IsOneNode, part_script, part_kind, asks_brace, in_braces}
 use Rattle.rap_grammar.specs.declared.entry.part.Part.{Part}
 use Rattle.rap_grammar.specs.declared.entry.part.Part.TheVariants as part
@@ -48,9 +49,9 @@ call_tree entry.MetaItem input h i d = absurd d
 
 -- what begins with items and tokens that begin none keeps their trees
 pub front_kept : (e : TopEntryPoint) (input : List Record) (output : Forest) → IsOutputOf e input output → KeepsFront e input output
-front_kept entry.SourceFile input output i = λ front rest trees same d. begun_file (rw same at i) d
+front_kept entry.SourceFile input output i = λ head front rest heads trees same d e. begun_file (rw same at i) d e
 front_kept entry.MacroStmts input output i = tt
-front_kept entry.MacroItems input output i = λ front rest trees same d. begun_items (rw same at i) d
+front_kept entry.MacroItems input output i = λ head front rest heads trees same d e. begun_items (rw same at i) d e
 front_kept entry.Pattern input output i = tt
 front_kept entry.Ty input output i = tt
 front_kept entry.Expr input output i = tt

@@ -9,6 +9,7 @@ use Rattle.rap_grammar_core.specs.MacroCall.{IsMacroCall}
 use Rattle.rap_grammar_core.specs.Mixed.{IsFront}
 use Rattle.rap_grammar_table.specs.Categories as table
 use Rattle.rap_grammar_table.specs.Fronts.{MakesFront}
+use Rattle.rap_grammar_table.specs.Heads.{file_head, items_head}
 use Rattle.rap_grammar_table.specs.Table.{Items}
 use Rattle.rap_grammar_table.specs.Tops.{Makes, MakesRow, file_row, items_row, stmts_row}
 use Rattle.rap_grammar.specs.CoreItems.{IsItem}
@@ -66,15 +67,18 @@ IsCall entry.Expr input tree = ⊥
 IsCall entry.MetaItem input tree = ⊥
 
 -- Where an input begins with items of the core grammar and with `@`, `,` and integers, in any order, the entry's node
--- begins with the tree of each, whatever follows the last such token.
+-- begins with the tree of each, whatever follows the last such token. Before these may stand what may stand before the
+-- items by the table: of a file a shebang, frontmatter and attributes of the file, and of a macro's items attributes.
+abbrev pub KeepsFrontBehind : Items → ℕ → List Record → Forest → Type 0
+KeepsFrontBehind before kind input output =
+    (head front rest : List Record) (heads trees : Forest) → input ≡ head ++ (front ++ rest) →
+    MakesRow before head heads → IsFront IsItem front rest trees →
+    (more : Forest) × (output ≡ node none kind ((heads ⧺ trees) ⧺ more))
+
 abbrev pub KeepsFront : TopEntryPoint → List Record → Forest → Type 0
-KeepsFront entry.SourceFile input output =
-    (front rest : List Record) (trees : Forest) → input ≡ front ++ rest → IsFront IsItem front rest trees →
-    (more : Forest) × (output ≡ node none SOURCE_FILE (trees ⧺ more))
+KeepsFront entry.SourceFile input output = KeepsFrontBehind file_head SOURCE_FILE input output
 KeepsFront entry.MacroStmts input output = Unit {0}
-KeepsFront entry.MacroItems input output =
-    (front rest : List Record) (trees : Forest) → input ≡ front ++ rest → IsFront IsItem front rest trees →
-    (more : Forest) × (output ≡ node none MACRO_ITEMS (trees ⧺ more))
+KeepsFront entry.MacroItems input output = KeepsFrontBehind items_head MACRO_ITEMS input output
 KeepsFront entry.Pattern input output = Unit {0}
 KeepsFront entry.Ty input output = Unit {0}
 KeepsFront entry.Expr input output = Unit {0}

@@ -102,10 +102,11 @@ impl TopEntryPoint {
     /// and balanced tokens in braces, gives under `SourceFile` and `MacroItems` the entry's node over one `MACRO_CALL`,
     /// whose `TOKEN_TREE` nests as the brackets do, without a message. Where an input begins with items of the core
     /// grammar and with `@`, `,` and integers, in any order, the entry's node begins under these two with the tree of
-    /// each item and an `ERROR` of a message and one leaf for each such token, whatever follows the last one.
-    /// `Pattern`, `Ty`, `Expr` and `MetaItem` give what `PatTop`, `Ty`, `Expr` and `MetaItem` of [`PrefixEntryPoint`]
-    /// read, where that is one tree over the whole input, and else an `ERROR` over it and a leaf for each token that is
-    /// left.
+    /// each item and an `ERROR` of a message and one leaf for each such token, whatever follows the last one. Before
+    /// these may stand, with their trees, a shebang, frontmatter and attributes of the file, and under `MacroItems` such
+    /// attributes. `Pattern`, `Ty`, `Expr` and `MetaItem` give what `PatTop`, `Ty`, `Expr` and `MetaItem` of
+    /// [`PrefixEntryPoint`] read, where that is one tree over the whole input, and else an `ERROR` over it and a leaf
+    /// for each token that is left.
     pub fn parse(&self, alloc: Global, input: &Input) -> Result<Output, ParseFault>
         ensures tree { IfOk result (IsTreeOver input.now) }
         ensures script { IfOk result (IsOutputOf self.now input.now) }

@@ -1,12 +1,11 @@
 -- Items of the core grammar: one leads on to what comes next.
 use Rattle.std.proofs.Common.{◌≡◌, ◌==◌, ℕ, true, false, not, List, [], ◌∷◌, ◌++◌, refl}
-use Rattle.rap_base.specs.TokenKind.{AT, COMMA, EOF, FRONTMATTER, INT_NUMBER, R_CURLY, SEMICOLON, SHEBANG}
+use Rattle.rap_base.specs.TokenKind.{AT, COMMA, EOF, INT_NUMBER, R_CURLY, SEMICOLON, SHEBANG}
 use Rattle.rap_events.specs.Forest.{Forest, ◌⧺◌}
 use Rattle.rap_events.specs.Record.{Record, next_kind}
-use Rattle.rap_grammar_scripts.specs.Attributes.{is_inner_attr_start}
 use Rattle.rap_grammar_scripts.specs.Items.{item_or_macro}
 use Rattle.rap_grammar_scripts.specs.Test.{Test, kind_so}
-use Rattle.rap_grammar_core.proofs.Recovery.{AreItems, StartsFile}
+use Rattle.rap_grammar_core.proofs.Recovery.{AreItems}
 use Rattle.rap_grammar_core.proofs.Ways.{Leads}
 use Rattle.rap_grammar_core.specs.Mixed.{IsStray}
 use Rattle.rap_grammar_table.specs.Categories as category
@@ -22,7 +21,7 @@ use Rattle.rap_grammar_table.proofs.Tops.{sees_end}
 use Rattle.rap_grammar_table.specs.Tops.{at_end}
 use Rattle.rap_grammar.specs.CoreItems.{IsItem}
 
-abbrev Next : List Record → Type 0
+abbrev pub Next : List Record → Type 0
 Next l = Sees (any_but SEMICOLON) l
 
 abbrev kind_is : ℕ → Test
@@ -45,15 +44,6 @@ item_no_brace : {ks : List Record} {t : Forest} → IsItem ks t → (l : List Re
 item_no_brace {ks = ks} d l n =
     never_so (kind_is R_CURLY) (table.firsts category.Item) (ks ++ l) refl (item_seen (d, n))
 
-item_starts : {ks : List Record} {t : Forest} → IsItem ks t → (l : List Record) → Next l → StartsFile (ks ++ l)
-item_starts {ks = ks} d l n =
-    let s = item_seen (d, n) in
-    record {
-      no_shebang = never_so (kind_is SHEBANG) (table.firsts category.Item) (ks ++ l) refl s;
-      no_frontmatter = never_so (kind_is FRONTMATTER) (table.firsts category.Item) (ks ++ l) refl s;
-      no_attribute = never_so is_inner_attr_start (table.firsts category.Item) (ks ++ l) refl s;
-    }
-
 stray_next : {r : Record} (l : List Record) → IsStray r → Next (r ∷ l)
 stray_next {r = r} l h =
     sees_one_of (AT ∷ COMMA ∷ INT_NUMBER ∷ []) (EOF ∷ those (λ k. not (k == SEMICOLON)) (up_to SHEBANG)) (r ∷ l) refl
@@ -68,5 +58,4 @@ core_items =
       way = item_way;
       no_end = item_no_end;
       no_brace = item_no_brace;
-      starts = item_starts;
     }

@@ -1,6 +1,7 @@
 pub mod CoreItems
 pub mod Depth
 pub mod DotsInside
+pub mod Heads
 pub mod OneTree
 pub mod Outputs
 pub mod Padded

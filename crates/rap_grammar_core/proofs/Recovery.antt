@@ -1,21 +1,18 @@
 -- What begins with items and tokens that begin none is read as that, whatever follows.
 use Rattle.std.proofs.Common.{◌≡◌, ℕ, List, [], ◌∷◌, ◌++◌, Bool, true, false, refl, ap, sym, ◌∙◌, subst, ◌==◌, append_assoc}
-use Rattle.rap_base.specs.TokenKind.{EOF, IDENT, AT, COMMA, INT_NUMBER, R_CURLY, POUND, EXTERN_KW, SHEBANG, INNER_DOC_COMMENT, FRONTMATTER, USE_KW, MOD_KW, TYPE_KW, PUB_KW, OUTER_DOC_COMMENT, STRUCT_KW, FN_KW, SELF_KW, CONST_KW, SUPER_KW, ENUM_KW, MACRO_KW, CRATE_KW, STATIC_KW, DEFAULT_KW, TRAIT_KW, COLON, IMPL_KW, ASYNC_KW, L_CURLY, GEN_KW, LET_KW, UNSAFE_KW, SAFE_KW, AUTO_KW}
+use Rattle.rap_base.specs.TokenKind.{EOF, IDENT, AT, COMMA, INT_NUMBER, R_CURLY, POUND, EXTERN_KW, USE_KW, MOD_KW, TYPE_KW, PUB_KW, OUTER_DOC_COMMENT, STRUCT_KW, FN_KW, SELF_KW, CONST_KW, SUPER_KW, ENUM_KW, MACRO_KW, CRATE_KW, STATIC_KW, DEFAULT_KW, TRAIT_KW, COLON, IMPL_KW, ASYNC_KW, L_CURLY, GEN_KW, LET_KW, UNSAFE_KW, SAFE_KW, AUTO_KW}
 use Rattle.rap_events.specs.Record.{Record, next_kind}
-use Rattle.rap_events.specs.Forest.{Forest, none, ◌⧺◌}
+use Rattle.rap_events.specs.Forest.{Forest, ◌⧺◌}
 use Rattle.rap_grammar_core.specs.Mixed.{IsStray, stray_tree, Mixed, no_more, an_item, a_stray, IsFront, whole, before}
 use Rattle.rap_grammar_scripts.proofs.Forests.{⧺-assoc}
 use Rattle.rap_grammar_scripts.proofs.OneEnd.{one_end}
 use Rattle.rap_events.proofs.Truth.{and_false}
-use Rattle.rap_grammar_scripts.specs.Script.{Outcome, nothing, something, block, again, Spot, Runs, Script, follows, fails, passes, obeys, loop, gives, turns, starts, stops, goes_on, abandons, skips}
+use Rattle.rap_grammar_scripts.specs.Script.{Outcome, nothing, something, block, again, Spot, Runs, Script, follows, fails, obeys, loop, gives, turns, starts, stops, goes_on, abandons, skips}
 use Rattle.rap_grammar_core.proofs.Operators.{differ, differ_back}
-use Rattle.rap_grammar_core.proofs.Ways.{Leads, Goes, none-⧺, no_attributes, no_pub_way}
+use Rattle.rap_grammar_core.proofs.Ways.{Leads, Goes, no_attributes, no_pub_way}
 use Rattle.rap_grammar_core.proofs.Adds.{items_add}
-use Rattle.rap_grammar_scripts.specs.Attributes.{inner_attrs, is_inner_attr_start}
-use Rattle.rap_grammar_scripts.specs.Test.{holds}
-use Rattle.rap_grammar_scripts.specs.Modules.{items, mod_contents}
+use Rattle.rap_grammar_scripts.specs.Modules.{items}
 use Rattle.rap_grammar_scripts.specs.Items.{item_or_macro, opt_item_without_modifiers, opt_item, marked_item, opt_modified_item, opt_item_with_modifiers, macro_or_error, opt_extern_block, missing_item, refuse}
-use Rattle.rap_grammar_scripts.specs.Entry.{source_file}
 use Rattle.rap_grammar_scripts.specs.First.{one_of}
 use Rattle.rap_grammar_scripts.specs.Knot.{script_of}
 use Rattle.rap_grammar_scripts.specs.Modifiers.{modifiers, opt_impl_restriction, qualifiers, safety, opt_abi, auto_or_default, opt_default, modifier, modifier_as}
@@ -118,12 +115,6 @@ behind_item : {b : List Forest} {rs l : List Record} {f g : Forest} {q : Spot} {
 unfolding items script_of
 behind_item x e c r = behind_turn (fails e (fails (rw c refl) (obeys x gives))) r
 
--- neither a shebang nor frontmatter comes next, nor an attribute of the file
-pub record StartsFile (rs : List Record) : Type 0 where
-  pub no_shebang : (next_kind rs == SHEBANG) ≡ false
-  pub no_frontmatter : (next_kind rs == FRONTMATTER) ≡ false
-  pub no_attribute : holds is_inner_attr_start rs ≡ false
-
 -- What is known of items, in a list before what may come next: one item leads on to what comes then.
 pub record AreItems (IsItem : List Record → Forest → Type 0) (Next : List Record → Type 0) : Type 0 where
   pub none_next : Next []
@@ -135,7 +126,6 @@ pub record AreItems (IsItem : List Record → Forest → Type 0) (Next : List Re
       (next_kind (ks ++ l) == EOF) ≡ false
   pub no_brace : {ks : List Record} {t : Forest} → IsItem ks t → (l : List Record) → Next l →
       (next_kind (ks ++ l) == R_CURLY) ≡ false
-  pub starts : {ks : List Record} {t : Forest} → IsItem ks t → (l : List Record) → Next l → StartsFile (ks ++ l)
 
 abbrev Items : Type 1
 Items = List Record → Forest → Type 0
@@ -143,7 +133,7 @@ Items = List Record → Forest → Type 0
 abbrev Nexts : Type 1
 Nexts = List Record → Type 0
 
-mixed_next : {P : Items} {N : Nexts} → AreItems P N → {ks : List Record} {t : Forest} → Mixed P ks t →
+pub mixed_next : {P : Items} {N : Nexts} → AreItems P N → {ks : List Record} {t : Forest} → Mixed P ks t →
     (l : List Record) → N l → N (ks ++ l)
 mixed_next o no_more l n = n
 mixed_next o (an_item {js = js} d m) l n = rw append_assoc (o.item_next d (js ++ l) (mixed_next o m l n))
@@ -163,62 +153,13 @@ behind_mixed o (a_stray {r = z} {u = u} h m) b f l s r =
     rw (sym (⧺-assoc f (stray_tree z) u)) (behind_mixed o m b (f ⧺ stray_tree z) l s (behind_item (stray_way h)
     (not_so h EOF refl) (not_so h R_CURLY refl) r))
 
--- so what is made begins with their trees
-items_begin : {P : Items} {N : Nexts} → AreItems P N → {ks rest : List Record} {t : Forest} → IsFront P ks rest t →
-    (b : List Forest) {q : Spot} {v : Outcome} →
-    Runs script_of (items false) (record { rest = ks ++ rest; forest = none; below = b }) q v →
-    (x : Forest) × (q.forest ≡ t ⧺ x)
-items_begin o (whole {t = t} m) b r =
-    let k = items_add false (behind_mixed o m b none [] o.none_next r) in
-    (k.0, k.1 ∙ ap (λ (x : Forest). x ⧺ k.0) (none-⧺ t))
-items_begin o (before {rest = rest} {r = z} {t = t} m h) b r =
-    let i = behind_mixed o m b none (z ∷ rest) (o.stray_next rest h) (rw append_assoc at r) in
+-- so what is made begins with their trees, behind what was there before
+pub items_begin : {P : Items} {N : Nexts} → AreItems P N → {ks rest : List Record} {t : Forest} →
+    IsFront P ks rest t → (b : List Forest) (f : Forest) {q : Spot} {v : Outcome} →
+    Runs script_of (items false) (record { rest = ks ++ rest; forest = f; below = b }) q v →
+    (x : Forest) × (q.forest ≡ (f ⧺ t) ⧺ x)
+items_begin o (whole m) b f r = items_add false (behind_mixed o m b f [] o.none_next r)
+items_begin o (before {rest = rest} {r = z} {t = t} m h) b f r =
+    let i = behind_mixed o m b f (z ∷ rest) (o.stray_next rest h) (rw append_assoc at r) in
     let k = items_add false (behind_item (stray_way h) (not_so h EOF refl) (not_so h R_CURLY refl) i) in
-    (k.0, k.1 ∙ ap (λ (x : Forest). (x ⧺ stray_tree z) ⧺ k.0) (none-⧺ t))
-
-stray_starts : {r : Record} (l : List Record) → IsStray r → StartsFile (r ∷ l)
-stray_starts l h =
-    record {
-      no_shebang = not_so h SHEBANG refl;
-      no_frontmatter = not_so h FRONTMATTER refl;
-      no_attribute = rw (not_so h INNER_DOC_COMMENT refl, not_so h POUND refl) refl;
-    }
-
-mixed_starts : {P : Items} {N : Nexts} → AreItems P N → {ks : List Record} {t : Forest} → Mixed P ks t →
-    (l : List Record) → N l → StartsFile l → StartsFile (ks ++ l)
-mixed_starts o no_more l n s = s
-mixed_starts o (an_item {js = js} d m) l n s = rw append_assoc (o.starts d (js ++ l) (mixed_next o m l n))
-mixed_starts o (a_stray {js = js} h m) l n s = stray_starts (js ++ l) h
-
-front_starts : {P : Items} {N : Nexts} → AreItems P N → {ks rest : List Record} {t : Forest} → IsFront P ks rest t →
-    StartsFile (ks ++ rest)
-front_starts o (whole m) =
-    mixed_starts o m [] o.none_next (record { no_shebang = refl; no_frontmatter = refl; no_attribute = refl })
-front_starts o (before {rest = rest} {r = z} m h) =
-    rw append_assoc (mixed_starts o m (z ∷ rest) (o.stray_next rest h) (stray_starts rest h))
-
-no_attribute_way : {b : List Forest} {rs : List Record} {f : Forest} → holds is_inner_attr_start rs ≡ false →
-    Leads inner_attrs b rs f rs f
-unfolding inner_attrs
-no_attribute_way h = stops (fails h gives) refl
-
-pub contents_begin : {P : Items} {N : Nexts} → AreItems P N → {ks rest : List Record} {t : Forest} →
-    IsFront P ks rest t → (b : List Forest) {q : Spot} {v : Outcome} →
-    Runs script_of (mod_contents false) (record { rest = ks ++ rest; forest = none; below = b }) q v →
-    (x : Forest) × (q.forest ≡ t ⧺ x)
-unfolding mod_contents
-contents_begin o d b {q = q} {v = v} (follows x y) =
-    let s = one_end x (no_attribute_way (front_starts o d).no_attribute) in
-    items_begin o d b (subst (λ (p : Spot). Runs script_of (items false) p q v) s.spot y)
-
-clash : {b : Bool} → b ≡ true → b ≡ false → ⊥
-clash h i = let x : true ≡ false = sym h ∙ i in cc
-
-pub file_begins : {P : Items} {N : Nexts} → AreItems P N → {ks rest : List Record} {t : Forest} →
-    IsFront P ks rest t → (b : List Forest) {q : Spot} {v : Outcome} →
-    Runs script_of source_file (record { rest = ks ++ rest; forest = none; below = b }) q v →
-    (x : Forest) × (q.forest ≡ t ⧺ x)
-unfolding source_file
-file_begins o d b (passes h x) = absurd (clash h (front_starts o d).no_shebang)
-file_begins o d b (fails h (passes i x)) = absurd (clash i (front_starts o d).no_frontmatter)
-file_begins o d b (fails h (fails i x)) = contents_begin o d b x
+    (k.0, k.1 ∙ ap (λ (x : Forest). x ⧺ k.0) (⧺-assoc f t (stray_tree z)))

@@ -11,6 +11,7 @@ pub mod Free
 pub mod FrontRows
 pub mod Fronts
 pub mod GenericRows
+pub mod Heads
 pub mod InTable
 pub mod Included
 pub mod IncludedBrackets

@@ -7,6 +7,7 @@ pub mod Counts
 pub mod Fronts
 pub mod GenericRows
 pub mod Good
+pub mod Heads
 pub mod Inclusion
 pub mod ItemRows
 pub mod Known
