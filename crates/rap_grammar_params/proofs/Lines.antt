@@ -1,11 +1,11 @@
--- What the scripts of parameters do of the open nodes, and when they take a token.
+-- When a parameter took a token, and what the lists leave.
 use Rattle.std.proofs.Common.{◌≡◌, ◌<◌, ◌&&◌, ℕ, Bool, true, false, refl}
 use Rattle.rap_base.specs.TokenTests.{is_token}
 use Rattle.rap_events.specs.State.{state, next}
 use Rattle.rap_events.specs.declared.parser.Parser.{Parser}
-use Rattle.rap_grammar_scripts.specs.Effects.{effect, level, leaves, is_level}
+use Rattle.rap_grammar_scripts.specs.Effects.{effect, leaves, is_level}
 use Rattle.rap_grammar_scripts.specs.Exec.{Does}
-use Rattle.rap_grammar_scripts.specs.Moves.{moves, moves_unless, every_kind}
+use Rattle.rap_grammar_scripts.specs.Moves.{moves_unless, every_kind}
 use Rattle.rap_grammar_scripts.specs.Params as script
 use Rattle.rap_grammar_scripts.specs.Script.{something}
 use Rattle.rap_grammar_scripts.specs.Words.{of_bool}
@@ -17,22 +17,7 @@ use Rattle.rap_grammar_scripts.specs.Tally.{holds_at}
 use Rattle.rap_grammar_frame.specs.Grew.{Took}
 use Rattle.rap_grammar_frame.specs.Room.{list_room}
 use Rattle.rap_grammar_frame.proofs.Done.{marker_kept, moved, moved_unless, took}
-
-pub level_params_of : (f : Flavor) → level (script.params_of f) ≡ true
-unfolding scripts
-level_params_of flavor.FnDef = refl
-level_params_of flavor.FnPointer = refl
-level_params_of flavor.Closure = refl
-
-pub level_param : (f : Flavor) → level (script.param f) ≡ true
-unfolding scripts
-level_param flavor.FnDef = refl
-level_param flavor.FnPointer = refl
-level_param flavor.Closure = refl
-
-pub level_opt_self_param : level script.opt_self_param ≡ true
-unfolding scripts
-level_opt_self_param = refl
+use Rattle.rap_grammar_facts.proofs.Params.{level_params_of, level_param, moves_list_}
 
 -- a parameter after which another one may follow took a token
 moves_attributed : (f : Flavor) → every_kind (λ k. moves_unless (script.attributed_param f) k) ≡ true
@@ -48,7 +33,7 @@ on_moves f true p q d e =
     (of_every (λ k. moves_unless (script.attributed_param f) k) (next (state p)) (moves_attributed f) (next_token p))
 on_moves f false p q d e = absurd cc
 
--- so the newest marker stays
+-- What stands in the brackets, and a parameter, leave the newest marker, whatever the list is.
 pub marker_behind_params : {n : ℕ} (f : Flavor) (p q : Parser) →
     Does n (script.params_of f) something (state p) (state q) → (state q).marker ≡ (state p).marker
 marker_behind_params f p q d = marker_kept p q d (level_params_of f)
@@ -64,15 +49,9 @@ list_leaves flavor.FnDef = refl
 list_leaves flavor.FnPointer = refl
 list_leaves flavor.Closure = refl
 
-list_moves : (f : Flavor) (k : ℕ) → moves (script.list_ f) k ≡ true
-unfolding scripts
-list_moves flavor.FnDef k = refl
-list_moves flavor.FnPointer k = refl
-list_moves flavor.Closure k = refl
-
 list_took : {n : ℕ} (f : Flavor) (p q : Parser) → Does n (script.list_ f) something (state p) (state q) →
     Took (state p) (state q) list_room
-list_took f p q d = took list_room p q d (list_leaves f) (moved p q d (list_moves f (next (state p))))
+list_took f p q d = took list_room p q d (list_leaves f) (moved p q d (moves_list_ f (next (state p))))
 
 pub fn_def_took : {n : ℕ} (p q : Parser) → Does n script.param_list_fn_def something (state p) (state q) →
     Took (state p) (state q) list_room

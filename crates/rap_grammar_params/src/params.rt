@@ -6,6 +6,7 @@ ghost use Rattle.rap_events.specs.State.{state, next, At};
 ghost use Rattle.rap_grammar_scripts.specs.First.{is_param_first};
 ghost use Rattle.rap_grammar_frame.specs.Grew.{Within, Behind};
 ghost use Rattle.rap_grammar_scripts.specs.Exec.{Does};
+ghost use Rattle.rap_grammar_facts.specs.Alone.{DoesAlone};
 ghost use Rattle.rap_grammar_scripts.specs.Params as script;
 ghost use Rattle.rap_grammar_scripts.specs.Script.{something};
 ghost use Rattle.rap_grammar_scripts.specs.Test.{holds};
@@ -97,7 +98,7 @@ fn fn_def_params<G: Grammar>(p: &mut Parser<'_>, g: &G) -> Result<(), NoMemory>
 }
 
 /// The first parameter of a function, as `self` or `a: b`. Returns whether another one may follow.
-#[tactic(auto, using(rap_grammar_frame::proofs::Done::less_left, rap_grammar_frame::proofs::Done::marker_kept, crate::proofs::Lines::level_opt_self_param), unfolding(rap_grammar_scripts::specs::Params::first_param))]
+#[tactic(auto, using(rap_grammar_frame::proofs::Done::less_left, rap_grammar_frame::proofs::Done::marker_kept, rap_grammar_facts::proofs::Params::level_opt_self_param), unfolding(rap_grammar_scripts::specs::Params::first_param))]
 fn first_param<G: Grammar>(p: &mut Parser<'_>, g: &G) -> Result<bool, NoMemory>
     requires behind { Behind G.valid G.left g.now (state p.old) }
     ensures script { IfOk result
@@ -121,7 +122,7 @@ fn first_param<G: Grammar>(p: &mut Parser<'_>, g: &G) -> Result<bool, NoMemory>
 /// The comma after a `self`.
 #[tactic(auto, unfolding(rap_grammar_scripts::specs::Params::after_self))]
 fn after_self(p: &mut Parser<'_>) -> Result<(), NoMemory>
-    ensures script { OnOk result ((depth : ℕ) → Does depth script.after_self something (state p.old) (state p.new)) }
+    ensures script { OnOk result (DoesAlone script.after_self something (state p.old) (state p.new)) }
 {
     if !p.at(T![')']) {
         p.expect(T![,])?;
@@ -192,7 +193,7 @@ fn is_param_first(kind: SyntaxKind) -> bool
 #[tactic(auto, unfolding(rap_grammar_scripts::specs::Params::after_param))]
 fn after_param(p: &mut Parser<'_>) -> Result<bool, NoMemory>
     ensures script { IfOk result
-        (λ on. (depth : ℕ) → Does depth script.after_param (of_bool on) (state p.old) (state p.new)) }
+        (λ on. DoesAlone script.after_param (of_bool on) (state p.old) (state p.new)) }
 {
     if p.eat(T![,])? {
         return Ok(true);
@@ -282,7 +283,7 @@ fn closure_param<G: Grammar>(p: &mut Parser<'_>, g: &G) -> Result<(), NoMemory>
 }
 
 /// What stands after a parameter's pattern: `: a` or `: ...`.
-#[tactic(auto, unfolding(rap_grammar_scripts::specs::Params::param_type))]
+#[tactic(auto, using(rap_grammar_facts::proofs::Alone::alone_less_left), unfolding(rap_grammar_scripts::specs::Params::param_type))]
 fn param_type<G: Grammar>(p: &mut Parser<'_>, g: &G) -> Result<(), NoMemory>
     requires behind { Behind G.valid G.left g.now (state p.old) }
     ensures script { OnOk result (Does (G.left g.now) script.param_type something (state p.old) (state p.new)) }
@@ -302,7 +303,7 @@ fn param_type<G: Grammar>(p: &mut Parser<'_>, g: &G) -> Result<(), NoMemory>
 #[tactic(auto, unfolding(rap_grammar_scripts::specs::Params::variadic_param))]
 fn variadic_param(p: &mut Parser<'_>) -> Result<bool, NoMemory>
     ensures script { IfOk result
-        (λ found. (depth : ℕ) → Does depth script.variadic_param (of_bool found) (state p.old) (state p.new)) }
+        (λ found. DoesAlone script.variadic_param (of_bool found) (state p.old) (state p.new)) }
 {
     if p.at(T![:]) && p.nth_at(1, T![...]) {
         p.bump(T![:])?;
@@ -362,7 +363,7 @@ fn past(p: &Parser<'_>, kind: SyntaxKind, n: usize) -> usize
 }
 
 /// `self` or `mut self`, and its type.
-#[tactic(auto, unfolding(rap_grammar_scripts::specs::Params::self_value))]
+#[tactic(auto, using(rap_grammar_facts::proofs::Alone::alone_less_left), unfolding(rap_grammar_scripts::specs::Params::self_value))]
 fn self_value<G: Grammar>(p: &mut Parser<'_>, g: &G) -> Result<(), NoMemory>
     requires within { Within G.valid G.left g.now (state p.old) }
     requires here { holds script.is_self_value (state p.old).rest ≡ true }
@@ -380,7 +381,7 @@ fn self_value<G: Grammar>(p: &mut Parser<'_>, g: &G) -> Result<(), NoMemory>
 #[tactic(auto, unfolding(rap_grammar_scripts::specs::Params::self_ref, rap_grammar_scripts::specs::Params::self_mut))]
 fn self_ref(p: &mut Parser<'_>) -> Result<(), NoMemory>
     requires here { holds script.is_self_ref (state p.old).rest ≡ true }
-    ensures script { OnOk result ((depth : ℕ) → Does depth script.self_ref something (state p.old) (state p.new)) }
+    ensures script { OnOk result (DoesAlone script.self_ref something (state p.old) (state p.new)) }
 {
     p.bump(T![&])?;
     if p.at(T![lifetime_ident]) {
@@ -398,7 +399,7 @@ fn self_ref(p: &mut Parser<'_>) -> Result<(), NoMemory>
 #[tactic(auto, unfolding(rap_grammar_scripts::specs::Params::self_as_name))]
 fn self_as_name(p: &mut Parser<'_>) -> Result<(), NoMemory>
     requires { next (state p.old) ≡ SELF_KW }
-    ensures script { OnOk result ((depth : ℕ) → Does depth script.self_as_name something (state p.old) (state p.new)) }
+    ensures script { OnOk result (DoesAlone script.self_as_name something (state p.old) (state p.new)) }
 {
     let m = p.start()?;
     p.bump(T![self])?;

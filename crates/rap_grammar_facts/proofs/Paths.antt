@@ -1,0 +1,119 @@
+-- What is computed of the scripts of Paths: the open nodes are as before, and a token is taken.
+-- Written by crates/rap_grammar_facts/facts from the scripts: an edit here is lost.
+use Rattle.std.proofs.Common.{◌≡◌, ℕ, Bool, true, false, refl}
+use Rattle.rap_grammar_scripts.specs.Effects.{level}
+use Rattle.rap_grammar_scripts.specs.Moves.{moves}
+use Rattle.rap_grammar_scripts.specs.declared.arguments.Mode.{Mode}
+use Rattle.rap_grammar_scripts.specs.declared.arguments.Mode.TheVariants as mode
+use Rattle.rap_grammar_scripts.proofs.Scripts.{scripts}
+use Rattle.rap_grammar_scripts.specs.Paths as script
+
+pub level_type_arg_element : level script.type_arg_element ≡ true
+unfolding scripts
+level_type_arg_element = refl
+
+pub moves_parenthesized_args : (k : ℕ) → moves script.parenthesized_args k ≡ true
+unfolding scripts
+moves_parenthesized_args k = refl
+
+pub moves_return_type_syntax : (k : ℕ) → moves script.return_type_syntax k ≡ true
+unfolding scripts
+moves_return_type_syntax k = refl
+
+pub level_opt_path_type_args : level script.opt_path_type_args ≡ true
+unfolding scripts
+level_opt_path_type_args = refl
+
+pub level_opt_path_args : (a : Mode) → level (script.opt_path_args a) ≡ true
+unfolding scripts
+level_opt_path_args mode.Use = refl
+level_opt_path_args mode.Attr = refl
+level_opt_path_args mode.Type = refl
+level_opt_path_args mode.Expr = refl
+level_opt_path_args mode.Vis = refl
+
+pub level_anchor_trait : level script.anchor_trait ≡ true
+unfolding scripts
+level_anchor_trait = refl
+
+pub level_type_anchor : level script.type_anchor ≡ true
+unfolding scripts
+level_type_anchor = refl
+
+pub moves_type_anchor : (k : ℕ) → moves script.type_anchor k ≡ true
+unfolding scripts
+moves_type_anchor k = refl
+
+pub level_path_segment : (a : Mode) → (b : Bool) → level (script.path_segment a b) ≡ true
+unfolding scripts
+level_path_segment mode.Use true = refl
+level_path_segment mode.Use false = refl
+level_path_segment mode.Attr true = refl
+level_path_segment mode.Attr false = refl
+level_path_segment mode.Type true = refl
+level_path_segment mode.Type false = refl
+level_path_segment mode.Expr true = refl
+level_path_segment mode.Expr false = refl
+level_path_segment mode.Vis true = refl
+level_path_segment mode.Vis false = refl
+
+pub level_path_for_qualifier : (a : Mode) → level (script.path_for_qualifier a) ≡ true
+unfolding scripts
+level_path_for_qualifier mode.Use = refl
+level_path_for_qualifier mode.Attr = refl
+level_path_for_qualifier mode.Type = refl
+level_path_for_qualifier mode.Expr = refl
+level_path_for_qualifier mode.Vis = refl
+
+pub level_path : (a : Mode) → level (script.path a) ≡ true
+unfolding scripts
+level_path mode.Use = refl
+level_path mode.Attr = refl
+level_path mode.Type = refl
+level_path mode.Expr = refl
+level_path mode.Vis = refl
+
+pub level_use_path : level script.use_path ≡ true
+unfolding scripts
+level_use_path = refl
+
+pub level_attr_path : level script.attr_path ≡ true
+unfolding scripts
+level_attr_path = refl
+
+pub level_type_path : level script.type_path ≡ true
+unfolding scripts
+level_type_path = refl
+
+pub level_expr_path : level script.expr_path ≡ true
+unfolding scripts
+level_expr_path = refl
+
+pub level_vis_path : level script.vis_path ≡ true
+unfolding scripts
+level_vis_path = refl
+
+pub level_type_path_for_qualifier : level script.type_path_for_qualifier ≡ true
+unfolding scripts
+level_type_path_for_qualifier = refl
+
+-- all of them
+pub ruleset facts = (
+  level_type_arg_element,
+  moves_parenthesized_args,
+  moves_return_type_syntax,
+  level_opt_path_type_args,
+  level_opt_path_args,
+  level_anchor_trait,
+  level_type_anchor,
+  moves_type_anchor,
+  level_path_segment,
+  level_path_for_qualifier,
+  level_path,
+  level_use_path,
+  level_attr_path,
+  level_type_path,
+  level_expr_path,
+  level_vis_path,
+  level_type_path_for_qualifier,
+)
