@@ -1,11 +1,11 @@
--- What the scripts of structs, unions and enums do of the open nodes, and when they take a token.
+-- When a field or a variant took a token, and what the scripts of structs, unions and enums leave.
 use Rattle.std.proofs.Common.{◌≡◌, ◌<◌, ◌&&◌, ◌||◌, ℕ, Bool, true, false, not, Some, refl, arith}
 use Rattle.rap_base.specs.TokenKind.{EOF, R_CURLY}
 use Rattle.rap_events.specs.Composite.{is_at}
 use Rattle.rap_events.specs.State.{state, next}
 use Rattle.rap_events.specs.declared.parser.Parser.{Parser}
 use Rattle.rap_grammar_scripts.specs.Adt as script
-use Rattle.rap_grammar_scripts.specs.Effects.{effect, level, grows, leaves, is_level, ends_one}
+use Rattle.rap_grammar_scripts.specs.Effects.{effect, grows, leaves, is_level, ends_one}
 use Rattle.rap_grammar_scripts.specs.Exec.{Does}
 use Rattle.rap_grammar_scripts.specs.Moves.{moves, moves_unless, every_kind}
 use Rattle.rap_grammar_scripts.specs.Script.{nothing, something}
@@ -18,48 +18,12 @@ use Rattle.rap_grammar_frame.specs.Grew.{Grew, Took, Ended}
 use Rattle.rap_grammar_frame.specs.Room.{element_room, item_room, list_room}
 use Rattle.rap_grammar_frame.proofs.Done.{moved, moved_unless, grew, took}
 use Rattle.rap_grammar_frame.proofs.Ended.{ended, moved_where, rules_out}
+use Rattle.rap_grammar_facts.proofs.Adt.{moves_tuple_field_list, moves_variant_list, moves_record_field_list, moves_strukt, moves_union, moves_enum_}
 
-pub level_struct_or_union : (b : Bool) → level (script.struct_or_union b) ≡ true
-unfolding scripts
-level_struct_or_union true = refl
-level_struct_or_union false = refl
-
-pub level_variant_list : level script.variant_list ≡ true
-unfolding scripts
-level_variant_list = refl
-
-pub level_variants : level script.variants ≡ true
-unfolding scripts
-level_variants = refl
-
-pub level_variant_fields : level script.variant_fields ≡ true
-unfolding scripts
-level_variant_fields = refl
-
-pub level_record_fields : level script.record_fields ≡ true
-unfolding scripts
-level_record_fields = refl
-
-pub level_opt_value : level script.opt_value ≡ true
-unfolding scripts
-level_opt_value = refl
-
-pub level_opt_mut_restriction : level script.opt_mut_restriction ≡ true
-unfolding scripts
-level_opt_mut_restriction = refl
-
-pub level_opt_unsafe : level script.opt_unsafe ≡ true
-unfolding scripts
-level_opt_unsafe = refl
-
--- a list in brackets takes a token
-moves_tuple_list : (k : ℕ) → moves script.tuple_field_list k ≡ true
-unfolding scripts
-moves_tuple_list k = refl
-
+-- a list in parentheses takes a token
 pub tuple_list_moved : {n : ℕ} (p q : Parser) → Does n script.tuple_field_list something (state p) (state q) →
     (state q).left < (state p).left
-tuple_list_moved p q d = moved p q d (moves_tuple_list (next (state p)))
+tuple_list_moved p q d = moved p q d (moves_tuple_field_list (next (state p)))
 
 -- so does a field or a variant, unless its list ends there
 abbrev inside : Test
@@ -128,14 +92,6 @@ field_list_leaves : holds_at (λ x. leaves list_room x && is_level x) something 
 unfolding scripts
 field_list_leaves = refl
 
-moves_variant_list : (k : ℕ) → moves script.variant_list k ≡ true
-unfolding scripts
-moves_variant_list k = refl
-
-moves_field_list : (k : ℕ) → moves script.record_field_list k ≡ true
-unfolding scripts
-moves_field_list k = refl
-
 pub variant_list_took : {n : ℕ} (p q : Parser) → Does n script.variant_list something (state p) (state q) →
     Took (state p) (state q) list_room
 variant_list_took p q d = took list_room p q d variant_list_leaves (moved p q d (moves_variant_list (next (state p))))
@@ -143,7 +99,7 @@ variant_list_took p q d = took list_room p q d variant_list_leaves (moved p q d 
 pub record_field_list_took : {n : ℕ} (p q : Parser) → Does n script.record_field_list something (state p) (state q) →
     Took (state p) (state q) list_room
 record_field_list_took p q d =
-    took list_room p q d field_list_leaves (moved p q d (moves_field_list (next (state p))))
+    took list_room p q d field_list_leaves (moved p q d (moves_record_field_list (next (state p))))
 
 -- the same of an item: its marker is gone, and so much room is left
 strukt_leaves : holds_at (λ x. leaves item_room x && ends_one x) something (effect script.strukt) ≡ true
@@ -158,18 +114,6 @@ enum_leaves : holds_at (λ x. leaves item_room x && ends_one x) something (effec
 unfolding scripts
 enum_leaves = refl
 
-moves_strukt : (k : ℕ) → moves script.strukt k ≡ true
-unfolding scripts
-moves_strukt k = refl
-
-moves_union : (k : ℕ) → moves script.union k ≡ true
-unfolding scripts
-moves_union k = refl
-
-moves_enum : (k : ℕ) → moves script.enum_ k ≡ true
-unfolding scripts
-moves_enum k = refl
-
 pub strukt_ended : {n m : ℕ} (p q : Parser) → Does n script.strukt something (state p) (state q) →
     (state p).marker ≡ Some m → Ended (state p) (state q) item_room
 strukt_ended p q d e = ended item_room p q d strukt_leaves (moved p q d (moves_strukt (next (state p)))) e
@@ -180,4 +124,4 @@ union_ended p q d e = ended item_room p q d union_leaves (moved p q d (moves_uni
 
 pub enum_ended : {n m : ℕ} (p q : Parser) → Does n script.enum_ something (state p) (state q) →
     (state p).marker ≡ Some m → Ended (state p) (state q) item_room
-enum_ended p q d e = ended item_room p q d enum_leaves (moved p q d (moves_enum (next (state p)))) e
+enum_ended p q d e = ended item_room p q d enum_leaves (moved p q d (moves_enum_ (next (state p)))) e

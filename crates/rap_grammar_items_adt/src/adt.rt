@@ -8,6 +8,7 @@ ghost use Rattle.rap_grammar_scripts.specs.Adt as script;
 ghost use Rattle.rap_grammar_scripts.specs.Adt.{is_mut_restriction_start};
 ghost use Rattle.rap_grammar_frame.specs.Grew.{Within, Behind};
 ghost use Rattle.rap_grammar_scripts.specs.Exec.{Does};
+ghost use Rattle.rap_grammar_facts.specs.Alone.{DoesAlone};
 ghost use Rattle.rap_grammar_scripts.specs.Script.{something};
 ghost use Rattle.rap_grammar_scripts.specs.Test.{holds};
 ghost use Rattle.rap_grammar_scripts.specs.Words.{of_bool};
@@ -27,7 +28,7 @@ use rap_grammar_frame::through_knot::{expr, opt_generic_param_list, opt_where_cl
 use rap_grammar_paths::visibility::{opt_visibility, opt_visibility_inner};
 
 /// A struct from its keyword on, as `struct S;`.
-#[tactic(auto, using(rap_grammar_frame::proofs::Done::marker_kept, crate::proofs::Lines::level_struct_or_union), unfolding(rap_grammar_scripts::specs::Adt::strukt))]
+#[tactic(auto, using(rap_grammar_frame::proofs::Done::marker_kept, rap_grammar_facts::proofs::Adt::level_struct_or_union), unfolding(rap_grammar_scripts::specs::Adt::strukt))]
 pub fn strukt<G: Grammar>(p: &mut Parser<'_>, g: &G, m: Marker) -> Result<(), NoMemory>
     requires within { Within G.valid G.left g.now (state p.old) }
     requires newest { (state p.old).marker ≡ Some m.pos.value }
@@ -41,7 +42,7 @@ pub fn strukt<G: Grammar>(p: &mut Parser<'_>, g: &G, m: Marker) -> Result<(), No
 }
 
 /// A union from its keyword on, as `union U { a: b }`.
-#[tactic(auto, using(rap_grammar_frame::proofs::Done::marker_kept, crate::proofs::Lines::level_struct_or_union), unfolding(rap_grammar_scripts::specs::Adt::union))]
+#[tactic(auto, using(rap_grammar_frame::proofs::Done::marker_kept, rap_grammar_facts::proofs::Adt::level_struct_or_union), unfolding(rap_grammar_scripts::specs::Adt::union))]
 pub fn union<G: Grammar>(p: &mut Parser<'_>, g: &G, m: Marker) -> Result<(), NoMemory>
     requires within { Within G.valid G.left g.now (state p.old) }
     requires newest { (state p.old).marker ≡ Some m.pos.value }
@@ -139,7 +140,7 @@ fn tuple_fields<G: Grammar>(p: &mut Parser<'_>, g: &G) -> Result<(), NoMemory>
 }
 
 /// An enum from its keyword on, as `enum E { A }`.
-#[tactic(auto, using(rap_grammar_frame::proofs::Done::marker_kept, crate::proofs::Lines::level_variant_list), unfolding(rap_grammar_scripts::specs::Adt::enum_))]
+#[tactic(auto, using(rap_grammar_frame::proofs::Done::marker_kept, rap_grammar_facts::proofs::Adt::level_variant_list), unfolding(rap_grammar_scripts::specs::Adt::enum_))]
 pub fn enum_<G: Grammar>(p: &mut Parser<'_>, g: &G, m: Marker) -> Result<(), NoMemory>
     requires within { Within G.valid G.left g.now (state p.old) }
     requires newest { (state p.old).marker ≡ Some m.pos.value }
@@ -161,7 +162,7 @@ pub fn enum_<G: Grammar>(p: &mut Parser<'_>, g: &G, m: Marker) -> Result<(), NoM
 }
 
 /// The variants of an enum in their braces.
-#[tactic(auto, using(rap_grammar_frame::proofs::Done::marker_kept, rap_grammar_frame::proofs::Ended::below_kept, crate::proofs::Lines::level_variants), unfolding(rap_grammar_scripts::specs::Adt::variant_list))]
+#[tactic(auto, using(rap_grammar_frame::proofs::Done::marker_kept, rap_grammar_frame::proofs::Ended::below_kept, rap_grammar_facts::proofs::Adt::level_variants), unfolding(rap_grammar_scripts::specs::Adt::variant_list))]
 pub fn variant_list<G: Grammar>(p: &mut Parser<'_>, g: &G) -> Result<(), NoMemory>
     requires within { Within G.valid G.left g.now (state p.old) }
     requires here { next (state p.old) ≡ L_CURLY }
@@ -208,7 +209,7 @@ fn variant_or_block<G: Grammar>(p: &mut Parser<'_>, g: &G) -> Result<(), NoMemor
 #[tactic(auto, unfolding(rap_grammar_scripts::specs::Adt::comma_in_braces))]
 fn comma_in_braces(p: &mut Parser<'_>) -> Result<(), NoMemory>
     ensures script { OnOk result
-        ((depth : ℕ) → Does depth script.comma_in_braces something (state p.old) (state p.new)) }
+        (DoesAlone script.comma_in_braces something (state p.old) (state p.new)) }
 {
     if p.at(T!['}']) {
         return Ok(());
@@ -254,7 +255,7 @@ fn named_variant<G: Grammar>(p: &mut Parser<'_>, g: &G, m: Marker) -> Result<(),
 #[tactic(auto, unfolding(rap_grammar_scripts::specs::Adt::missing_in_list))]
 fn missing_in_list(p: &mut Parser<'_>, message: &str) -> Result<(), NoMemory>
     ensures script { OnOk result
-        ((depth : ℕ) → Does depth (script.missing_in_list message.now) something (state p.old) (state p.new)) }
+        (DoesAlone (script.missing_in_list message.now) something (state p.old) (state p.new)) }
 {
     if p.at(T!['}']) {
         p.error(message)?;
@@ -265,7 +266,7 @@ fn missing_in_list(p: &mut Parser<'_>, message: &str) -> Result<(), NoMemory>
 }
 
 /// What stands after a variant's name: its fields and its value.
-#[tactic(auto, using(rap_grammar_frame::proofs::Done::less_left, rap_grammar_frame::proofs::Done::marker_kept, crate::proofs::Lines::level_variant_fields, crate::proofs::Lines::level_opt_value), unfolding(rap_grammar_scripts::specs::Adt::after_variant_name))]
+#[tactic(auto, using(rap_grammar_frame::proofs::Done::less_left, rap_grammar_frame::proofs::Done::marker_kept, rap_grammar_facts::proofs::Adt::level_variant_fields, rap_grammar_facts::proofs::Adt::level_opt_value), unfolding(rap_grammar_scripts::specs::Adt::after_variant_name))]
 fn after_variant_name<G: Grammar>(p: &mut Parser<'_>, g: &G, m: Marker) -> Result<(), NoMemory>
     requires behind { Behind G.valid G.left g.now (state p.old) }
     requires newest { (state p.old).marker ≡ Some m.pos.value }
@@ -310,7 +311,7 @@ fn opt_value<G: Grammar>(p: &mut Parser<'_>, g: &G) -> Result<(), NoMemory>
 }
 
 /// Named fields in their braces, as `{ a: b, c: d }`.
-#[tactic(auto, using(rap_grammar_frame::proofs::Done::marker_kept, rap_grammar_frame::proofs::Ended::below_kept, crate::proofs::Lines::level_record_fields), unfolding(rap_grammar_scripts::specs::Adt::record_field_list))]
+#[tactic(auto, using(rap_grammar_frame::proofs::Done::marker_kept, rap_grammar_frame::proofs::Ended::below_kept, rap_grammar_facts::proofs::Adt::level_record_fields), unfolding(rap_grammar_scripts::specs::Adt::record_field_list))]
 pub fn record_field_list<G: Grammar>(p: &mut Parser<'_>, g: &G) -> Result<(), NoMemory>
     requires within { Within G.valid G.left g.now (state p.old) }
     requires here { next (state p.old) ≡ L_CURLY }
@@ -378,7 +379,7 @@ fn visible_field<G: Grammar>(p: &mut Parser<'_>, g: &G, m: Marker) -> Result<(),
 }
 
 /// A field from its `mut` restriction on, which may stand before `unsafe` and after it.
-#[tactic(auto, using(rap_grammar_frame::proofs::Done::less_left, rap_grammar_frame::proofs::Done::marker_kept, crate::proofs::Lines::level_opt_mut_restriction, crate::proofs::Lines::level_opt_unsafe), unfolding(rap_grammar_scripts::specs::Adt::restricted_field))]
+#[tactic(auto, using(rap_grammar_frame::proofs::Done::less_left, rap_grammar_frame::proofs::Done::marker_kept, rap_grammar_facts::proofs::Adt::level_opt_mut_restriction, rap_grammar_facts::proofs::Adt::level_opt_unsafe), unfolding(rap_grammar_scripts::specs::Adt::restricted_field))]
 fn restricted_field<G: Grammar>(p: &mut Parser<'_>, g: &G, m: Marker) -> Result<(), NoMemory>
     requires behind { Behind G.valid G.left g.now (state p.old) }
     requires newest { (state p.old).marker ≡ Some m.pos.value }
@@ -391,7 +392,7 @@ fn restricted_field<G: Grammar>(p: &mut Parser<'_>, g: &G, m: Marker) -> Result<
 }
 
 /// A field from its name on.
-#[tactic(auto, using(rap_grammar_frame::proofs::Done::marker_kept, crate::proofs::Lines::level_opt_value))]
+#[tactic(auto, using(rap_grammar_frame::proofs::Done::marker_kept, rap_grammar_facts::proofs::Adt::level_opt_value))]
 fn named_field<G: Grammar>(p: &mut Parser<'_>, g: &G, m: Marker) -> Result<(), NoMemory>
     requires behind { Behind G.valid G.left g.now (state p.old) }
     requires newest { (state p.old).marker ≡ Some m.pos.value }
@@ -506,7 +507,7 @@ impl Element for TupleField {
 }
 
 /// A field without a name from its `mut` restriction on. Returns whether there is one.
-#[tactic(auto, using(rap_grammar_frame::proofs::Done::less_left, rap_grammar_frame::proofs::Done::marker_kept, crate::proofs::Lines::level_opt_mut_restriction), unfolding(rap_grammar_scripts::specs::Adt::restricted_tuple_field))]
+#[tactic(auto, using(rap_grammar_frame::proofs::Done::less_left, rap_grammar_frame::proofs::Done::marker_kept, rap_grammar_facts::proofs::Adt::level_opt_mut_restriction), unfolding(rap_grammar_scripts::specs::Adt::restricted_tuple_field))]
 fn restricted_tuple_field<G: Grammar>(
     p: &mut Parser<'_>,
     g: &G,

@@ -19,5 +19,5 @@ unfolding named_field
 returns g c = record {
   script = else_by c.at.ensures c.if-at.false
       (by_abandon c.in_ok-abandon.ensures.state
-      (to_end (c.in_ok-missing_in_list.ensures.script _)));
+      (to_end (c.in_ok-missing_in_list.ensures.script.at _)));
 }
