@@ -19,8 +19,7 @@ use Rattle.rap_grammar_table.proofs.Again.{made_again}
 use Rattle.rap_grammar_table.proofs.Fronts.{anchored_path_front, block_front, expr_front, global_path_front, item_front, last_stmt_front, meta_front, path_front, pattern_front, single_front, stmt_front, type_front, visibility_front}
 use Rattle.rap_grammar_table.proofs.ByKind.{sees_other_behind}
 use Rattle.rap_grammar.proofs.Prefixes.{front_of_table, front_part}
-use Rattle.rap_grammar_core.specs.StandsIn.{StandsIn}
-use Rattle.ra_ap_parser.specs.Reparsed.{HasNode, IsAgainItself}
+use Rattle.ra_ap_parser.specs.Reparsed.{IsAgainItself}
 use Rattle.ra_ap_parser.specs.EntryScript.{IsOutputOf, IsCore, IsCall, KeepsFront, IsPrefixOutputOf, IsPrefixCore, WrapsPrefix}
 use Rattle.ra_ap_parser.specs.declared.entry_point.PrefixEntryPoint.{PrefixEntryPoint}
 use Rattle.ra_ap_parser.specs.declared.entry_point.PrefixEntryPoint.TheVariants as prefix
