@@ -1,0 +1,21 @@
+-- The numbers mean the rows of the table.
+use Rattle.std.proofs.Common.{◌≡◌, ℕ, List, [], ◌∷◌, map, refl}
+use Rattle.rap_grammar_rows.specs.Code.{forms, firsts, seconds, nexts, row_places, sets, turns}
+use Rattle.rap_grammar_rows.specs.Decode.{item_at, parts_of}
+use Rattle.rap_grammar_rows.specs.Rows.{all_parts, rows_in}
+use Rattle.rap_grammar_table.specs.Notation.{Entry}
+use Rattle.rap_grammar_table.specs.Rows.{entries}
+use Rattle.rap_grammar_table.specs.Table.{Items}
+use Rattle.rap_grammar_table.specs.Tops.{file_row}
+
+abbrev pub rows_of : List Entry → List (List Items)
+rows_of [] = []
+rows_of (e ∷ es) = e.rows ∷ rows_of es
+
+pub content : rows_in all_parts row_places ≡ rows_of entries
+unfolding all_parts parts_of forms firsts seconds nexts row_places sets turns
+content = refl
+
+pub file_content : item_at 0 all_parts ≡ file_row
+unfolding all_parts parts_of forms firsts seconds nexts sets turns
+file_content = refl

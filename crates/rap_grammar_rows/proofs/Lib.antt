@@ -1,0 +1,9 @@
+pub mod Content
+pub mod Excluded
+pub mod FactLeads
+pub mod Joins
+pub mod Leads
+pub mod Parts
+pub mod Pieces
+pub mod Sets
+pub mod Steps

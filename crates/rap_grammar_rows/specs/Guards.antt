@@ -1,0 +1,45 @@
+-- The tests in the rows that must not hold, each with what may follow the row.
+use Rattle.std.specs.Prelude.{ℕ, zero, suc, true, List, [], ◌∷◌}
+use Rattle.rap_base.specs.TokenKind.{COLON, COLON2, R_PAREN, L_CURLY, L_ANGLE, LIFETIME_IDENT, IMPL_KW, FOR_KW, MUT_KW, AMP2, PIPE2, SHL}
+use Rattle.rap_grammar_scripts.specs.First.{one_of}
+use Rattle.rap_grammar_scripts.specs.Params.{is_named_param}
+use Rattle.rap_grammar_scripts.specs.Patterns.{is_ident_pat_start}
+use Rattle.rap_grammar_scripts.specs.Test.{Test, negated, or_else}
+use Rattle.rap_grammar_scripts.specs.Traits.{is_impl_params_start}
+use Rattle.rap_grammar_scripts.specs.Types.{starts_for_target}
+use Rattle.rap_grammar_scripts.specs.Visibility.{starts_restriction, starts_in_restriction}
+use Rattle.rap_grammar_scripts.specs.Words.{is_at, next_is, next_so}
+use Rattle.rap_grammar_table.specs.ItemRows.{no_impl_type}
+use Rattle.rap_grammar_table.specs.Known.{Place}
+use Rattle.rap_grammar_table.specs.Look.{anything}
+use Rattle.rap_grammar_table.specs.Notation.{of_kinds}
+
+abbrev pub Guard : Type 0
+Guard = Test × List (List Place)
+
+abbrev pub guards : List Guard
+guards =
+    (negated starts_for_target, anything)
+    ∷ (next_is COLON, anything)
+    ∷ (next_so (one_of (LIFETIME_IDENT ∷ IMPL_KW ∷ FOR_KW ∷ [])), anything)
+    ∷ (is_at COLON2, anything)
+    ∷ (is_named_param, (of_kinds (R_PAREN ∷ []) ∷ []) ∷ [])
+    ∷ (is_named_param, anything)
+    ∷ (is_at SHL, anything)
+    ∷ (is_at PIPE2, anything)
+    ∷ (is_at AMP2, anything)
+    ∷ (next_is L_ANGLE, anything)
+    ∷ (or_else (starts_restriction true) starts_in_restriction, anything)
+    ∷ (no_impl_type, anything)
+    ∷ (negated is_impl_params_start, anything)
+    ∷ (next_is IMPL_KW, anything)
+    ∷ (is_at MUT_KW, anything)
+    ∷ (is_ident_pat_start, anything)
+    ∷ (next_is LIFETIME_IDENT, anything)
+    ∷ (next_is L_CURLY, anything)
+    ∷ []
+
+abbrev pub guard_at : ℕ → List Guard → Guard
+guard_at n [] = (is_at COLON2, anything)
+guard_at zero (g ∷ gs) = g
+guard_at (suc n) (g ∷ gs) = guard_at n gs

@@ -1,0 +1,14 @@
+//! The rows of the core grammar as numbers, and a check that a derivation along them is one.
+#![tactic(auto)]
+
+pub mod check;
+pub mod fact;
+mod guard;
+mod lists;
+mod numbers;
+pub mod part;
+pub mod shape;
+#[cfg(test)]
+mod tests;
+mod tokens;
+mod walk;
