@@ -1,5 +1,5 @@
 -- The numbers mean the rows of the table.
-use Rattle.std.proofs.Common.{◌≡◌, ℕ, List, [], ◌∷◌, map, refl}
+use Rattle.std.proofs.Common.{◌≡◌, List, [], ◌∷◌, refl}
 use Rattle.rap_grammar_rows.specs.Code.{forms, firsts, seconds, nexts, row_places, sets, turns}
 use Rattle.rap_grammar_rows.specs.Decode.{item_at, parts_of}
 use Rattle.rap_grammar_rows.specs.Rows.{all_parts, rows_in}

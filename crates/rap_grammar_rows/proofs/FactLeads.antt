@@ -1,8 +1,8 @@
 -- Steps of a walk by a fact, and where the walk then is.
-use Rattle.std.proofs.Common.{◌≡◌, ℕ, true, List, [], ◌∷◌, refl, sym, ap, ◌∙◌, subst}
+use Rattle.std.proofs.Common.{◌≡◌, ℕ, true, List, sym, subst}
 use Rattle.rap_events.specs.Record.{Record}
-use Rattle.rap_grammar_rows.proofs.Leads.{piece_leads, group_leads, repeat_leads, fold_leads, close_leads}
-use Rattle.rap_grammar_rows.specs.Claims.{Holds, HoldsFrom, IsPiece, IsTurns, IsFold, From, Leads, Point, point, row_point, joined, closed, ends_in_node}
+use Rattle.rap_grammar_rows.proofs.Leads.{piece_leads, group_leads, repeat_leads, fold_leads}
+use Rattle.rap_grammar_rows.specs.Claims.{Holds, HoldsFrom, IsPiece, IsTurns, IsFold, From, Leads, Point, point, row_point, joined, ends_in_node}
 use Rattle.rap_grammar_rows.specs.Meaning.{at_place}
 use Rattle.rap_grammar_rows.specs.declared.fact.Fact.{Fact}
 use Rattle.rap_grammar_rows.specs.declared.fact.Goal.{Goal}

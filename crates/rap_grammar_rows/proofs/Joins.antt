@@ -1,11 +1,11 @@
 -- Facts from facts.
-use Rattle.std.proofs.Common.{◌≡◌, ℕ, zero, suc, ◌+◌, ◌<◌, ◌≤◌, true, List, [], ◌∷◌, ◌++◌, drop, length, get_or, Option, Some, None, refl, sym, ap, ◌∙◌, subst, arith}
+use Rattle.std.proofs.Common.{◌≡◌, ℕ, zero, suc, ◌<◌, ◌≤◌, true, List, [], ◌∷◌, ◌++◌, drop, length, get_or, Some, refl, sym, ap, ◌∙◌, subst, arith}
 use Rattle.std.proofs.lemmas.List.{append-nil}
 use Rattle.rap_events.specs.Forest.{Forest, none, node, ◌⧺◌}
 use Rattle.rap_events.specs.Record.{Record}
 use Rattle.rap_grammar_rows.proofs.Content.{rows_of, content, file_content}
 use Rattle.rap_grammar_rows.proofs.Leads.{behind}
-use Rattle.rap_grammar_rows.specs.Claims.{Segment, IsNode, Rest, From, Point, StepIs, IsPiece, IsTurns, IsFold, Folded, row_point, turn_point}
+use Rattle.rap_grammar_rows.specs.Claims.{Segment, Rest, From, Point, StepIs, IsPiece, IsTurns, IsFold, Folded, row_point, turn_point}
 use Rattle.rap_grammar_rows.specs.Code.{row_places, sets, turns}
 use Rattle.rap_grammar_rows.specs.Decode.{item_at, set_in, turn_in}
 use Rattle.rap_grammar_rows.specs.Meaning.{at_place, meaning}
@@ -19,7 +19,7 @@ use Rattle.rap_grammar_rows.specs.declared.shape.Shape.TheVariants.{OneNode}
 use Rattle.rap_grammar_table.specs.Known.{among}
 use Rattle.rap_grammar_table.specs.Notation.{Entry, entry_at}
 use Rattle.rap_grammar_table.specs.Rows.{entries, table}
-use Rattle.rap_grammar_table.specs.Table.{Items, HasWay, first_turn, other_turn, Derives, rest_of, cat, folding, row_at, by_row, last_turn, one_turn, folded_none, folded_more}
+use Rattle.rap_grammar_table.specs.Table.{Items, HasWay, first_turn, other_turn, Derives, rest_of, cat, row_at, by_row, last_turn, one_turn, folded_none, folded_more}
 use Rattle.rap_grammar_table.specs.Tops.{nothing_given, MakesRow, file_row}
 
 -- rows by their numbers

@@ -1,14 +1,14 @@
 -- Steps of a walk, by the parts of the row.
-use Rattle.std.proofs.Common.{◌≡◌, ℕ, Bool, true, false, List, [], ◌∷◌, ◌++◌, drop, reverse, Option, Some, None, refl, sym, ap, ◌∙◌, subst, append_assoc}
+use Rattle.std.proofs.Common.{◌≡◌, ℕ, true, List, [], ◌∷◌, ◌++◌, drop, reverse, Option, Some, None, sym, ap, ◌∙◌, subst, append_assoc}
 use Rattle.rap_events.specs.Record.{Record}
 use Rattle.rap_grammar_rows.proofs.Steps.{ended_good, begin_good, close_good, piece_good, first_good, second_good, group_good, repeat_good, guard_good, fold_good}
-use Rattle.rap_grammar_rows.specs.Claims.{Segment, Good, plug, context, opened, joined, closed, ends_in_node, Point, point, From, Leads, IsRefused, IsPiece, IsTurns, IsFold, row_point}
+use Rattle.rap_grammar_rows.specs.Claims.{Segment, Good, plug, context, opened, joined, closed, ends_in_node, point, From, Leads, IsRefused, IsPiece, IsTurns, IsFold, row_point}
 use Rattle.rap_grammar_rows.specs.Guards.{guards, guard_at}
 use Rattle.rap_grammar_rows.specs.Meaning.{at_place}
 use Rattle.rap_grammar_rows.specs.declared.shape.Frame.{Frame}
 use Rattle.rap_grammar_rows.specs.declared.shape.Frame.TheVariants as frame
 use Rattle.rap_grammar_rows.specs.declared.shape.Shape.{Shape}
-use Rattle.rap_grammar_rows.specs.declared.shape.Shape.TheVariants.{Empty, OneNode, EndsInNode, Any}
+use Rattle.rap_grammar_rows.specs.declared.shape.Shape.TheVariants.{Empty, Any}
 use Rattle.rap_grammar_table.specs.Table.{Piece, Items, nil, begin, close, piece, choice, repeat, group, folds, unless}
 
 -- one segment behind another

@@ -1,3 +1,4 @@
+pub mod Coming
 pub mod Content
 pub mod Excluded
 pub mod FactLeads

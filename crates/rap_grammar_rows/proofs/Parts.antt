@@ -1,7 +1,7 @@
 -- The part at a place, by its numbers.
-use Rattle.std.proofs.Common.{◌≡◌, ℕ, zero, suc, ◌+◌, ◌<◌, ◌≤◌, List, [], ◌∷◌, drop, length, get_or, refl, sym, ap, ◌∙◌, subst, arith, lit≤}
+use Rattle.std.proofs.Common.{◌≡◌, ℕ, zero, suc, ◌+◌, ◌<◌, List, [], ◌∷◌, drop, length, get_or, refl, sym, ap, ◌∙◌, subst, arith}
 use Rattle.rap_grammar_rows.specs.Code.{forms, firsts, seconds, nexts, sets, turns}
-use Rattle.rap_grammar_rows.specs.Decode.{AreAt, Form, form_of, item_at, build, put_before, parts_of, set_in, words_in, turn_in}
+use Rattle.rap_grammar_rows.specs.Decode.{AreAt, form_of, item_at, build, parts_of, set_in, words_in, turn_in}
 use Rattle.rap_grammar_rows.specs.Guards.{guards, guard_at}
 use Rattle.rap_grammar_rows.specs.Meaning.{at_place}
 use Rattle.rap_grammar_rows.specs.Rows.{all_parts}

@@ -4,13 +4,12 @@ use Rattle.std.proofs.lemmas.Bool.{eqb-true}
 use Rattle.rap_base.specs.TokenKind.{IDENT}
 use Rattle.rap_events.proofs.Truth.{and_left, and_right}
 use Rattle.rap_events.specs.Composite.{parts, width, width_of, begins_with, is_at, is_first}
-use Rattle.rap_events.specs.Forest.{Forest, none, leaf}
+use Rattle.rap_events.specs.Forest.{none, leaf}
 use Rattle.rap_events.specs.Record.{Record, kind_at, contextual_at}
-use Rattle.rap_grammar_rows.specs.Claims.{Segment, IsPiece}
-use Rattle.rap_grammar_rows.specs.Decode.{set_in}
+use Rattle.rap_grammar_rows.specs.Claims.{IsPiece}
 use Rattle.rap_grammar_rows.specs.declared.shape.Shape.TheVariants.{Any}
 use Rattle.rap_grammar_table.specs.Known.{among, within}
-use Rattle.rap_grammar_table.specs.Table.{tok, word, comp, Derives, Touching, last_part, next_part, a_token, a_word, an_operator}
+use Rattle.rap_grammar_table.specs.Table.{tok, word, comp, Touching, last_part, next_part, a_token, a_word, an_operator}
 
 or_left_true : (a : Bool) → (true || a) ≡ true
 or_left_true a = refl

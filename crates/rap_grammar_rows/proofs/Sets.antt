@@ -1,5 +1,5 @@
 -- Sets by their numbers.
-use Rattle.std.proofs.Common.{◌≡◌, ℕ, zero, suc, ◌≤◌, List, [], ◌∷◌, length, get_or, map, Bor, refl, sym, ap, ◌∙◌, arith}
+use Rattle.std.proofs.Common.{◌≡◌, ℕ, zero, suc, ◌≤◌, List, [], ◌∷◌, length, get_or, map, Bor, refl, ap, ◌∙◌, arith}
 use Rattle.rap_grammar_rows.specs.Code.{row_places, sets, turns}
 use Rattle.rap_grammar_rows.specs.Decode.{set_in, turn_in}
 

@@ -1,14 +1,14 @@
 -- Steps of a walk along a row.
-use Rattle.std.proofs.Common.{◌≡◌, ℕ, Bool, true, false, List, [], ◌∷◌, ◌++◌, drop, Option, Some, None, refl, sym, ap, ◌∙◌, subst}
+use Rattle.std.proofs.Common.{◌≡◌, ℕ, true, false, List, [], ◌∷◌, ◌++◌, Option, Some, None, refl, sym, ap, subst}
 use Rattle.rap_events.specs.Forest.{Forest, none, node, leaf, message, split, ◌⧺◌}
 use Rattle.rap_events.specs.Record.{Record}
-use Rattle.rap_grammar_rows.specs.Claims.{IsNode, LastIsNode, Fits, FitAll, joined, closed, ends_in_node, Rest, Good, plug, Folded}
+use Rattle.rap_grammar_rows.specs.Claims.{IsNode, LastIsNode, Fits, joined, closed, ends_in_node, Rest, Good, plug, Folded}
 use Rattle.rap_grammar_rows.specs.declared.shape.Shape.{Shape}
 use Rattle.rap_grammar_rows.specs.declared.shape.Shape.TheVariants.{Empty, OneNode, EndsInNode, Any}
 use Rattle.rap_grammar_scripts.specs.Test.{Test, holds}
 use Rattle.rap_grammar_table.specs.Known.{Place, Sees}
 use Rattle.rap_grammar_table.specs.Rows.{table}
-use Rattle.rap_grammar_table.specs.Table.{Piece, Items, nil, begin, close, piece, choice, repeat, turns_of, group, folds, folding, unless, appended, Derives, one, rest_of, ended, begun, closed as node_closed, put, first_way, second_way, repeated, grouped, folded, guarded}
+use Rattle.rap_grammar_table.specs.Table.{Piece, Items, nil, begin, close, piece, choice, repeat, turns_of, group, folds, unless, appended, Derives, one, rest_of, ended, begun, closed as node_closed, put, first_way, second_way, repeated, grouped, folded, guarded}
 use Rattle.rap_grammar_table.specs.Tops.{nothing_given}
 
 -- shapes

@@ -1,6 +1,6 @@
 -- What the numbers of the rows mean: parts of rows, each by its form, two numbers, and the place of the part behind it.
 -- Places count from the part after this one.
-use Rattle.std.specs.Prelude.{◌≡◌, ℕ, zero, suc, ◌<◌, get_or, List, [], ◌∷◌, Option, Some, None, map}
+use Rattle.std.specs.Prelude.{◌≡◌, ℕ, zero, suc, ◌<◌, get_or, List, [], ◌∷◌, Option, Some, None}
 use Rattle.rap_grammar_rows.specs.Code.{forms, firsts, seconds, nexts, sets, turns}
 use Rattle.rap_grammar_rows.specs.Guards.{guards, guard_at}
 use Rattle.rap_grammar_table.specs.Table.{tok, word, comp, cat, Items, nil, begin, close, piece, choice, repeat, group, folds, way, unless}

@@ -1,6 +1,6 @@
 -- The rows as numbers.
-use Rattle.std.specs.Prelude.{ℕ, List, [], ◌∷◌, map}
-use Rattle.rap_grammar_rows.specs.Code.{forms, firsts, seconds, nexts, row_places}
+use Rattle.std.specs.Prelude.{ℕ, List, [], ◌∷◌}
+use Rattle.rap_grammar_rows.specs.Code.{forms, firsts, seconds, nexts}
 use Rattle.rap_grammar_rows.specs.Decode.{item_at, parts_of}
 use Rattle.rap_grammar_table.specs.Table.{Items}
 

@@ -1,4 +1,4 @@
-use Rattle.std.proofs.Common.{◌≡◌, refl, ◌∙◌}
+use Rattle.std.proofs.Common.{refl, ◌∙◌}
 use Rattle.std.proofs.lemmas.Bool.{eqb-true}
 use Rattle.rap_grammar_rows.proofs.FactLeads.{said}
 use Rattle.rap_grammar_rows.proofs.Joins.{file_fact}

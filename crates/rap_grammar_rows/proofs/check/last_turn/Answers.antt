@@ -1,4 +1,4 @@
-use Rattle.std.proofs.Common.{◌≡◌, refl}
+use Rattle.std.proofs.Common.{refl}
 use Rattle.rap_grammar_rows.proofs.FactLeads.{said}
 use Rattle.rap_grammar_rows.proofs.Joins.{last_fact}
 use Rattle.rap_grammar_rows.specs.declared.fact.Goal.TheVariants as kind

@@ -1,4 +1,3 @@
-use Rattle.std.proofs.Common.{◌≡◌}
 use Rattle.rap_grammar_rows.proofs.Joins.{no_fold_fact}
 use Rattle.rap_grammar_rows.proofs.check.no_fold.Goals as goal
 

@@ -1,4 +1,4 @@
-use Rattle.std.proofs.Common.{◌≡◌, ℕ, List, true, refl, sym, ap, ◌∙◌, subst, rules}
+use Rattle.std.proofs.Common.{◌≡◌, ℕ, true, refl, sym, ◌∙◌, subst, rules}
 use Rattle.rap_grammar_rows.proofs.FactLeads.{said}
 use Rattle.rap_grammar_rows.proofs.Joins.{fold_fact}
 use Rattle.rap_grammar_rows.specs.Claims.{From, IsFold, turn_point}

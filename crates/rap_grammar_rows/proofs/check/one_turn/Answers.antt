@@ -1,4 +1,4 @@
-use Rattle.std.proofs.Common.{◌≡◌, ℕ, refl, sym, subst}
+use Rattle.std.proofs.Common.{ℕ, refl, sym, subst}
 use Rattle.rap_grammar_rows.proofs.FactLeads.{said}
 use Rattle.rap_grammar_rows.proofs.Joins.{turns_fact}
 use Rattle.rap_grammar_rows.specs.Claims.{From, row_point}

@@ -1,4 +1,4 @@
-use Rattle.std.proofs.Common.{◌≡◌, ◌<◌, length, arith, ap, ◌∙◌}
+use Rattle.std.proofs.Common.{◌≡◌, arith}
 use Rattle.rap_grammar_rows.proofs.Joins.{row_there}
 use Rattle.rap_grammar_rows.specs.Code.{row_places}
 use Rattle.rap_grammar_rows.specs.Decode.{set_in}

@@ -1,4 +1,4 @@
-use Rattle.std.proofs.Common.{◌≡◌, sym, refl}
+use Rattle.std.proofs.Common.{sym, refl}
 use Rattle.rap_grammar_rows.proofs.Sets.{places_is, places_past}
 use Rattle.rap_grammar_rows.proofs.check.row_starts.Goals as goal
 

@@ -1,4 +1,4 @@
-use Rattle.std.proofs.Common.{◌≡◌, ap, ◌∙◌}
+use Rattle.std.proofs.Common.{ap, ◌∙◌}
 use Rattle.rap_grammar_rows.proofs.Sets.{turn_is}
 use Rattle.rap_grammar_rows.proofs.check.turn_numbers.Goals as goal
 

@@ -1,11 +1,18 @@
-use Rattle.std.proofs.Common.{◌≡◌, ◌<◌, ◌≤◌, length, true, arith, rules}
-use Rattle.rap_events.specs.Record.{kind_at}
-use Rattle.rap_grammar_rows.proofs.Excluded.{refused_by_first}
-use Rattle.rap_grammar_rows.specs.Excluders.{is_excluded}
+use Rattle.std.proofs.Common.{ℕ, ◌<◌, ◌≤◌, length, sym, subst, ◌∙◌, arith}
+use Rattle.rap_grammar_rows.specs.Claims.{IsRefused}
+use Rattle.rap_grammar_rows.proofs.Excluded.{refused_by_tokens, refused_at_end}
 use Rattle.rap_grammar_rows.proofs.guard.is_refused.Goals as goal
+
+pub returns-then-end-at-eq1 : goal.returns-then-end-at-eq1
+returns-then-end-at-eq1 c h =
+    let a : c.args.at < c.args.end = omega (arith, c.if-at-end.false) in
+    let l : c.args.end ≤ length c.args.input.now = omega (arith, c.if-end-len.false, c.len.ensures.len) in
+    subst (λ (g : ℕ). IsRefused g c.args.input.now c.args.at c.args.end) (sym c.if-guard-eq4.true)
+    (refused_at_end c.args.input.now c.args.at c.args.end c.if-end-at-eq1.true (omega arith) l)
 
 pub returns : goal.returns
 returns c h =
-    let x : is_excluded c.args.guard (kind_at c.args.input.now c.args.at) ≡ true = search rules in
-    let l : c.args.end ≤ length c.args.input.now = omega arith in
-    refused_by_first c.args.input.now c.args.at c.args.end c.args.guard (omega arith) l x
+    let a : c.args.at < c.args.end = omega (arith, c.if-at-end.false) in
+    let l : c.args.end ≤ length c.args.input.now = omega (arith, c.if-end-len.false, c.len.ensures.len) in
+    refused_by_tokens c.args.input.now c.args.at c.args.end c.args.guard c.coming.result a l c.coming.ensures
+    (sym c.is_excluded.ensures ∙ h)

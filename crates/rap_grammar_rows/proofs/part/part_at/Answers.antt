@@ -1,5 +1,5 @@
 -- The part by its form.
-use Rattle.std.proofs.Common.{◌≡◌, ℕ, arith}
+use Rattle.std.proofs.Common.{arith}
 use Rattle.rap_grammar_rows.proofs.Parts.{end_is, start_is, close_is, token_is, word_is, operator_is, category_is, choice_is, repeat_is, group_is, folds_is, turn_is, guard_is}
 use Rattle.rap_grammar_rows.proofs.part.part_at.Goals as goal
 

@@ -1,4 +1,4 @@
-use Rattle.std.proofs.Common.{◌≡◌, true, ℕ, List, subst, sym, ap, ◌∙◌}
+use Rattle.std.proofs.Common.{ℕ, List, sym, ap, ◌∙◌}
 use Rattle.rap_grammar_rows.proofs.Pieces.{among_at}
 use Rattle.rap_grammar_table.specs.Known.{among}
 use Rattle.rap_grammar_rows.proofs.tokens.contains.Goals as goal

@@ -1,4 +1,4 @@
-use Rattle.std.proofs.Common.{◌≡◌, ℕ, ◌<◌, length, true, rules, arith, ◌∙◌, sym, subst, ap}
+use Rattle.std.proofs.Common.{◌≡◌, ◌<◌, length, true, rules, arith, ◌∙◌, ap}
 use Rattle.rap_events.specs.Record.{kind_at, contextual_at}
 use Rattle.rap_grammar_rows.proofs.Pieces.{token_piece}
 use Rattle.rap_grammar_rows.specs.Code.{sets}

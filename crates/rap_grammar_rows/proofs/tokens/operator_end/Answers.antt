@@ -1,4 +1,4 @@
-use Rattle.std.proofs.Common.{◌≡◌, ◌+◌, ℕ, arith, sym, ◌∙◌, ap}
+use Rattle.std.proofs.Common.{◌≡◌, ◌+◌, ℕ, sym, ◌∙◌, ap}
 use Rattle.rap_grammar_rows.proofs.Pieces.{operator_at}
 use Rattle.rap_events.specs.State.{state}
 use Rattle.rap_grammar_rows.proofs.tokens.operator_end.Goals as goal

@@ -1,4 +1,4 @@
-use Rattle.std.proofs.Common.{◌≡◌, sym, refl}
+use Rattle.std.proofs.Common.{sym, refl}
 use Rattle.rap_grammar_rows.proofs.Sets.{set_is, set_past}
 use Rattle.rap_grammar_rows.proofs.tokens.set.Goals as goal
 

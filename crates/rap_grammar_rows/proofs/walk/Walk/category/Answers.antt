@@ -1,10 +1,6 @@
-use Rattle.std.proofs.Common.{◌≡◌, ◌+◌, ℕ, true, refl, sym, ap, ◌∙◌, rules, arith}
+use Rattle.std.proofs.Common.{ap, ◌∙◌}
 use Rattle.rap_grammar_rows.proofs.FactLeads.{went, by_category}
-use Rattle.rap_grammar_rows.specs.Claims.{IsPiece, point, joined}
-use Rattle.rap_grammar_rows.specs.Code.{sets}
-use Rattle.rap_grammar_rows.specs.Decode.{set_in, words_in}
-use Rattle.rap_grammar_rows.specs.declared.shape.Shape.TheVariants.{Any}
-use Rattle.rap_grammar_table.specs.Table.{tok, word, comp}
+use Rattle.rap_grammar_rows.specs.Claims.{point, joined}
 use Rattle.rap_grammar_rows.proofs.walk.Walk.category.Goals as goal
 
 pub returns : goal.returns

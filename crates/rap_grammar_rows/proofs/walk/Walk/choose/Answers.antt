@@ -1,4 +1,3 @@
-use Rattle.std.proofs.Common.{◌≡◌}
 use Rattle.rap_grammar_rows.proofs.Leads.{first_leads, second_leads}
 use Rattle.rap_grammar_rows.proofs.walk.Walk.choose.Goals as goal
 

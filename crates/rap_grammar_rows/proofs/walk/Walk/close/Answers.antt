@@ -1,4 +1,4 @@
-use Rattle.std.proofs.Common.{◌≡◌, ◌+◌, ℕ, true, refl, sym, ap, ◌∙◌, rules, arith}
+use Rattle.std.proofs.Common.{refl}
 use Rattle.rap_grammar_rows.proofs.FactLeads.{went}
 use Rattle.rap_grammar_rows.proofs.Leads.{close_leads}
 use Rattle.rap_grammar_rows.specs.Claims.{point, closed}

@@ -1,4 +1,3 @@
-use Rattle.std.proofs.Common.{◌≡◌}
 use Rattle.rap_grammar_rows.proofs.Leads.{done_from}
 use Rattle.rap_grammar_rows.proofs.walk.Walk.end.Goals as goal
 

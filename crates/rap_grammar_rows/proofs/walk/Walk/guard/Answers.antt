@@ -1,4 +1,4 @@
-use Rattle.std.proofs.Common.{◌≡◌, rules}
+use Rattle.std.proofs.Common.{rules}
 use Rattle.rap_grammar_rows.proofs.Leads.{guard_leads}
 use Rattle.rap_grammar_rows.specs.Claims.{IsRefused}
 use Rattle.rap_grammar_rows.proofs.walk.Walk.guard.Goals as goal

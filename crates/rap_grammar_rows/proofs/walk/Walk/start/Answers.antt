@@ -1,4 +1,3 @@
-use Rattle.std.proofs.Common.{◌≡◌}
 use Rattle.rap_grammar_rows.proofs.Leads.{start_leads}
 use Rattle.rap_grammar_rows.proofs.walk.Walk.start.Goals as goal
 

@@ -1,11 +1,9 @@
-use Rattle.std.proofs.Common.{◌≡◌, ◌+◌, ℕ, true, refl, sym, ap, ◌∙◌, rules, arith}
+use Rattle.std.proofs.Common.{◌+◌, ap, rules}
 use Rattle.rap_grammar_rows.proofs.FactLeads.{went}
 use Rattle.rap_grammar_rows.proofs.Leads.{piece_leads}
-use Rattle.rap_grammar_rows.specs.Claims.{IsPiece, point, joined}
-use Rattle.rap_grammar_rows.specs.Code.{sets}
-use Rattle.rap_grammar_rows.specs.Decode.{set_in, words_in}
+use Rattle.rap_grammar_rows.specs.Claims.{IsPiece, point}
 use Rattle.rap_grammar_rows.specs.declared.shape.Shape.TheVariants.{Any}
-use Rattle.rap_grammar_table.specs.Table.{tok, word, comp}
+use Rattle.rap_grammar_table.specs.Table.{word}
 use Rattle.rap_grammar_rows.proofs.walk.Walk.word.Goals as goal
 
 there : (c : goal.After-go_on) → IsPiece c.args.input.now (word c.args.kind) c.args.self.now.at (c.args.self.now.at + 1) Any
