@@ -55,7 +55,7 @@ fn row_starts(number: usize) -> &'static [u16]
 }
 
 /// Where a row of a category begins, by their numbers.
-fn row_place(category: u16, row: usize) -> Option<usize>
+pub fn row_place(category: u16, row: usize) -> Option<usize>
     ensures { IfSome result (λ place. row_at row (table.rows category) ≡ Some (at_place place)) }
 {
     let places = row_starts(usize::from(category));
@@ -100,7 +100,7 @@ fn turn_at(first: usize, skips: usize) -> Option<Turn>
 }
 
 /// The set of the numbers for which a turn is there, and the next number.
-fn turn_numbers(number: usize) -> Option<(usize, u16)>
+pub fn turn_numbers(number: usize) -> Option<(usize, u16)>
     ensures { IfSome result (λ r. (r.0 ≡ (turn_in number turns).0) × (r.1 ≡ (turn_in number turns).1)) }
 {
     if number >= 32 {

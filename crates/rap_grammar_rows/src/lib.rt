@@ -3,12 +3,12 @@
 
 pub mod check;
 pub mod fact;
-mod guard;
+pub mod guard;
 mod lists;
 mod numbers;
 pub mod part;
 pub mod shape;
 #[cfg(test)]
 mod tests;
-mod tokens;
+pub mod tokens;
 mod walk;

@@ -1,0 +1,81 @@
+//! Lists that share what stands before, and that are let go all at once.
+
+use rap_base::no_memory::NoMemory;
+use std::alloc::Global;
+
+/// What stands in a list.
+#[derive(Clone, Copy)]
+pub enum Item {
+    /// Nothing: below the first one.
+    Bottom,
+    /// A way was taken; the parts from this place on stand behind it.
+    Then(usize),
+    /// A node is open; the list that it stands in ends at this element.
+    Opened(usize, usize),
+    /// These nodes stand around the next one; the list of the outermost one ends at this element.
+    Around(usize, usize),
+    /// A node around another one.
+    Node(usize),
+    /// A choice of a walk.
+    Move(usize),
+    /// A test that must not hold before this token.
+    Guard(usize, usize),
+    /// One turn, by its fact, from this element on.
+    Turn(usize, usize),
+    /// For this number the turn that stands so many behind the first one, by its fact.
+    Fold(u16, usize, usize),
+}
+
+/// An item, and the list behind it.
+#[derive(Clone, Copy)]
+struct Link {
+    item: Item,
+    rest: usize,
+}
+
+/// Lists by their numbers; 0 is the empty one.
+#[derive(Drop)]
+pub struct Lists {
+    links: Vec<Link>,
+}
+
+impl Lists {
+    /// The empty list alone.
+    pub fn new(alloc: Global) -> Result<Lists, NoMemory> {
+        let mut links = Vec::new(alloc);
+        links.push(Link {
+            item: Item::Bottom,
+            rest: 0,
+        })?;
+        Ok(Lists { links })
+    }
+
+    /// The list with an item before another one.
+    pub fn put(&mut self, item: Item, rest: usize) -> Result<usize, NoMemory> {
+        let number = self.links.len();
+        self.links.push(Link { item, rest })?;
+        Ok(number)
+    }
+
+    /// The first item of a list, and the others.
+    pub fn first(&self, list: usize) -> (Item, usize) {
+        if list < self.links.len() {
+            let link = self.links[list];
+            (link.item, link.rest)
+        } else {
+            (Item::Bottom, 0)
+        }
+    }
+
+    /// How many lists there are.
+    pub fn mark(&self) -> usize {
+        self.links.len()
+    }
+
+    /// Lets go of the lists that were made later than a mark.
+    pub fn release(&mut self, mark: usize) {
+        if 0 < mark && mark < self.links.len() {
+            self.links.truncate(mark);
+        }
+    }
+}

@@ -1,0 +1,132 @@
+//! The nodes of a tree that the table does not derive.
+ghost use Rattle.std.specs.Prelude.{◌≤◌, length, All, IfOk};
+
+use crate::element::{Elements, elements_of};
+use crate::memo::{Answer, Question, Wanted};
+use crate::search::{Search, new_search};
+use crate::shape::{CATEGORIES, is_of_some};
+use rap_base::no_memory::NoMemory;
+use rap_base::syntax_kind::SyntaxKind;
+use rap_events::input::Input;
+use rap_events::output::Output;
+use std::alloc::Global;
+
+/// A node that the table does not derive, with its first token and the one behind it.
+#[derive(Clone, Copy)]
+pub struct Outside {
+    pub kind: SyntaxKind,
+    pub start: usize,
+    pub end: usize,
+}
+
+impl Search {
+    /// Whether some category derives a node, in a list that ends at an element.
+    fn is_inside(&mut self, input: &Input, at: usize, limit: usize) -> Result<bool, NoMemory> {
+        let behind = self.elements.at(at).behind;
+        'categories: for number in 0..CATEGORIES {
+            let question = Question {
+                wanted: Wanted::Category(number),
+                at,
+                limit,
+            };
+            if let Answer::Fact(_, end) = self.answer(input, question)? {
+                if end == behind {
+                    return Ok(true);
+                }
+            }
+        }
+        Ok(false)
+    }
+
+    /// Whether an element is a leaf, or a node that some category derives.
+    fn is_derived(&mut self, input: &Input, at: usize, limit: usize) -> Result<bool, NoMemory> {
+        if !self.elements.at(at).is_node {
+            return Ok(true);
+        }
+        self.is_inside(input, at, limit)
+    }
+
+    /// The nodes that no category derives, but those in nodes that one does; each stands before what is in it.
+    fn failed(&mut self, input: &Input) -> Result<Vec<usize>, NoMemory> {
+        let mut failed = Vec::new(self.alloc);
+        let mut limits = Vec::new(self.alloc);
+        let mut at = 0;
+        limits.push(self.elements.len())?;
+        'elements: for _ in 0..u64::MAX {
+            let Some(limit) = limits.pop() else {
+                break 'elements;
+            };
+            if at < limit {
+                limits.push(limit)?;
+                let element = self.elements.at(at);
+                if self.is_derived(input, at, limit)? {
+                    at = element.behind;
+                } else {
+                    failed.push(at)?;
+                    limits.push(element.behind)?;
+                    at = at.saturating_add(1);
+                }
+            }
+        }
+        Ok(failed)
+    }
+
+    /// A node with its tokens, of so many. Tokens that are not there are left out.
+    fn node(&self, at: usize, tokens: usize) -> Outside
+        ensures { (result.start ≤ result.end) × (result.end ≤ tokens) }
+    {
+        let element = self.elements.at(at);
+        let end = self.token(element.behind).min(tokens);
+        let start = element.token.min(end);
+        Outside {
+            kind: element.kind,
+            start,
+            end,
+        }
+    }
+
+    /// Of nodes that no category derives the smallest; the last one comes first.
+    fn smallest(&self, failed: Vec<usize>, tokens: usize) -> Result<Vec<Outside>, NoMemory>
+        ensures { IfOk result (λ nodes. All (λ node. (node.start ≤ node.end) × (node.end ≤ tokens)) nodes.items) }
+    {
+        let mut failed = failed;
+        let mut found = Vec::new(self.alloc);
+        let mut newest = usize::MAX;
+        'nodes: for _ in 0..u64::MAX {
+            let Some(at) = failed.pop() else {
+                break 'nodes;
+            };
+            let element = self.elements.at(at);
+            let is_first = at == 0 && found.is_empty();
+            if element.behind <= newest && (is_first || is_of_some(element.kind)) {
+                newest = at;
+                found.push(self.node(at, tokens))?;
+            }
+        }
+        Ok(found)
+    }
+}
+
+/// Returns the nodes of a tree that no category derives though it is of such nodes, each with none of them in it; the
+/// last one comes first. Where there is none it is the root. The tokens of each are some of the input.
+///
+/// The error means out of memory.
+pub fn find_outside(alloc: Global, input: &Input, output: &Output) -> Result<Vec<Outside>, NoMemory>
+    ensures { IfOk result (λ nodes. All (λ node. (node.start ≤ node.end) × (node.end ≤ length input.now)) nodes.items) }
+{
+    let elements = elements_of(alloc, output)?;
+    outside_along(alloc, input, elements)
+}
+
+/// The same along the elements of the tree.
+pub(crate) fn outside_along(
+    alloc: Global,
+    input: &Input,
+    elements: Elements,
+) -> Result<Vec<Outside>, NoMemory>
+    ensures { IfOk result (λ nodes. All (λ node. (node.start ≤ node.end) × (node.end ≤ length input.now)) nodes.items) }
+{
+    let mut search = new_search(alloc, elements)?;
+    let failed = search.failed(input)?;
+    search.smallest(failed, input.len())
+}

@@ -1,0 +1,120 @@
+//! What the rows tell of the nodes in a tree.
+
+use rap_base::syntax_kind::SyntaxKind;
+use rap_grammar_rows::check::row_place;
+use rap_grammar_rows::part::{Part, part_at};
+
+/// How many categories there are.
+pub const CATEGORIES: u16 = 129;
+
+/// The place behind a part, where a row goes on there.
+pub fn following(part: Part) -> Option<usize> {
+    match part {
+        Part::End => None,
+        Part::Start(next)
+        | Part::Close(_, next)
+        | Part::Token(_, _, next)
+        | Part::Word(_, next)
+        | Part::Operator(_, next)
+        | Part::Category(_, next)
+        | Part::Choice(_, _, next)
+        | Part::Repeat(_, _, next)
+        | Part::Group(_, next)
+        | Part::Folds(_, _, next)
+        | Part::Turn(_, _, next)
+        | Part::Guard(_, next) => Some(next),
+    }
+}
+
+/// Where the node ends that is open from a place on: its kind, and the place behind it.
+pub fn end_of_node(place: usize) -> Option<(u16, usize)> {
+    let mut place = place;
+    let mut depth: usize = 0;
+    'parts: for _ in 0..u64::MAX {
+        let part = part_at(place)?;
+        match part {
+            Part::Start(_) => depth = depth.saturating_add(1),
+            Part::Close(kind, next) => {
+                if depth == 0 {
+                    return Some((kind, next));
+                }
+                depth -= 1;
+            }
+            _ => {}
+        }
+        place = following(part)?;
+    }
+    None
+}
+
+/// The turns that stand at a place, which put nodes around the one before.
+pub fn turns_at(place: usize) -> Option<usize> {
+    match part_at(place) {
+        Some(Part::Folds(_, turns, _)) => Some(turns),
+        _ => None,
+    }
+}
+
+/// Whether some of these turns ends a node of this kind.
+pub fn ends_with(turns: usize, kind: SyntaxKind) -> bool {
+    let mut place = turns;
+    'turns: for _ in 0..u64::MAX {
+        let Some(Part::Turn(_, row, next)) = part_at(place) else {
+            return false;
+        };
+        if let Some((ended, _)) = end_of_node(row) {
+            if ended == u16::from(kind) {
+                return true;
+            }
+        }
+        place = next;
+    }
+    false
+}
+
+/// What a row begins with, behind tests.
+fn first_part(place: usize) -> Option<Part> {
+    let mut place = place;
+    'parts: for _ in 0..u64::MAX {
+        let part = part_at(place)?;
+        let Part::Guard(_, next) = part else {
+            return Some(part);
+        };
+        place = next;
+    }
+    None
+}
+
+/// Whether a row begins with a node of this kind.
+fn begins_with(place: usize, kind: SyntaxKind) -> bool {
+    let Some(Part::Start(next)) = first_part(place) else {
+        return false;
+    };
+    let Some((begun, _)) = end_of_node(next) else {
+        return false;
+    };
+    begun == u16::from(kind)
+}
+
+/// Whether some row of a category begins with a node of this kind.
+fn is_of(category: u16, kind: SyntaxKind) -> bool {
+    'rows: for row in 0..usize::MAX {
+        let Some(place) = row_place(category, row) else {
+            return false;
+        };
+        if begins_with(place, kind) {
+            return true;
+        }
+    }
+    false
+}
+
+/// Whether some category is of nodes of this kind.
+pub fn is_of_some(kind: SyntaxKind) -> bool {
+    'categories: for category in 0..CATEGORIES {
+        if is_of(category, kind) {
+            return true;
+        }
+    }
+    false
+}
