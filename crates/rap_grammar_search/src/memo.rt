@@ -1,5 +1,6 @@
 //! What was already asked for, and what was found.
-ghost use Rattle.std.specs.Prelude.{◌≤◌, length};
+ghost use Rattle.std.specs.Prelude.{◌≡◌, ◌≢◌, ◌<◌, length, Any, IfSome, OnOk};
+ghost use Rattle.rap_grammar_search.specs.declared.memo.Answer.TheVariants.{Unasked};
 
 use rap_base::no_memory::NoMemory;
 use std::alloc::Global;
@@ -74,41 +75,46 @@ impl Memo {
         }
     }
 
-    /// The number of a question's entry and one, or 0.
-    fn place(&self, question: Question) -> usize
-        ensures { result ≤ length self.now.entries.items }
+    /// The number of a question's entry, and the answer in it.
+    fn find(&self, question: Question) -> Option<(usize, Answer)>
+        ensures within { IfSome result (λ found. found.0 < length self.now.entries.items) }
+        ensures found { IfSome result (λ found. Any (λ entry. (entry.question ≡ question) × (entry.answer ≡ found.1)) self.now.entries.items) }
     {
         let mut place = self.newest_at(question.at);
         'entries: for _ in 0..u64::MAX {
             if place == 0 || place > self.entries.len() {
-                return 0;
+                return None;
             }
             let entry = self.entries[place - 1];
             if entry.question == question {
-                return place;
+                return Some((place - 1, entry.answer));
             }
             place = entry.older;
         }
-        0
+        None
     }
 
-    /// Returns what was found.
-    pub fn answer(&self, question: Question) -> Answer {
-        let place = self.place(question);
-        if place == 0 {
-            return Answer::Unasked;
+    /// Returns what was found: an answer was written down for this very question.
+    pub fn answer(&self, question: Question) -> Answer
+        ensures { result ≢ Unasked → Any (λ entry. (entry.question ≡ question) × (entry.answer ≡ result)) self.now.entries.items }
+    {
+        match self.find(question) {
+            Some((_, answer)) => answer,
+            None => Answer::Unasked,
         }
-        let entry = self.entries[place - 1];
-        entry.answer
     }
 
-    /// Writes an answer down.
-    pub fn settle(&mut self, question: Question, answer: Answer) -> Result<(), NoMemory> {
-        let place = self.place(question);
-        if place > 0 {
-            let mut entry = self.entries[place - 1];
-            entry.answer = answer;
-            self.entries[place - 1] = entry;
+    /// Writes an answer down, if the element is one of those that there are entries for.
+    pub fn settle(&mut self, question: Question, answer: Answer) -> Result<(), NoMemory>
+        ensures { question.at < length self.old.newest.items → OnOk result (Any (λ entry. (entry.question ≡ question) × (entry.answer ≡ answer)) self.new.entries.items) }
+    {
+        if let Some((number, _)) = self.find(question) {
+            let older = self.entries[number].older;
+            self.entries[number] = Entry {
+                question,
+                answer,
+                older,
+            };
             return Ok(());
         }
         if question.at < self.newest.len() {

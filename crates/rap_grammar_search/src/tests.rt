@@ -276,3 +276,27 @@ fn two_dots_behind_an_at_are_outside(rt: HostRuntime) -> Result<(), NoMemory> {
     assert!(rt; is_one(nodes.as_slice(), SyntaxKind::IDENT_PAT, 6, 10));
     Ok(())
 }
+
+// The output of a float that is the fields of two field accesses, one in the other.
+fn split(alloc: Global) -> Result<Output, NoMemory> {
+    let mut input = Input::with_capacity(alloc, 1)?;
+    input.push_joint(SyntaxKind::FLOAT_NUMBER, Edition::CURRENT, true)?;
+    let mut p = Parser::new(alloc, &input);
+    let whole = p.start()?;
+    let field = p.start()?;
+    p.split_float(field)?;
+    whole.complete(&mut p, SyntaxKind::SOURCE_FILE)?;
+    p.process(alloc)
+}
+
+#[test]
+fn a_float_that_is_split_ends_two_nodes(rt: HostRuntime) -> Result<(), NoMemory> {
+    let output = split(rt.alloc())?;
+    let tree = elements_of(rt.alloc(), &output)?;
+    assert!(rt; tree.len() == 4);
+    assert!(rt; tree.at(0).kind == SyntaxKind::SOURCE_FILE && tree.at(0).behind == 4);
+    assert!(rt; tree.at(1).kind == SyntaxKind::FIELD_EXPR && tree.at(1).behind == 4);
+    assert!(rt; tree.at(2).kind == SyntaxKind::FIELD_EXPR && tree.at(2).behind == 4);
+    assert!(rt; tree.at(3).token == 0 && tree.at(4).token == 1);
+    Ok(())
+}
