@@ -1,5 +1,5 @@
 //! The nodes of a tree that the table does not derive.
-ghost use Rattle.std.specs.Prelude.{◌≤◌, length, All, IfOk};
+ghost use Rattle.std.specs.Prelude.{◌≤◌, length, All, AllPairs, IfOk};
 
 use crate::element::{Elements, elements_of};
 use crate::memo::{Answer, Question, Wanted};
@@ -71,7 +71,7 @@ impl Search {
         Ok(failed)
     }
 
-    /// A node with its tokens, of so many. Tokens that are not there are left out.
+    /// A node with its tokens, as far as they are among so many first ones.
     fn node(&self, at: usize, tokens: usize) -> Outside
         ensures { (result.start ≤ result.end) × (result.end ≤ tokens) }
     {
@@ -85,13 +85,15 @@ impl Search {
         }
     }
 
-    /// Of nodes that no category derives the smallest; the last one comes first.
+    /// Of nodes that no category derives the smallest; the last one comes first. Of so many tokens none is in two.
     fn smallest(&self, failed: Vec<usize>, tokens: usize) -> Result<Vec<Outside>, NoMemory>
-        ensures { IfOk result (λ nodes. All (λ node. (node.start ≤ node.end) × (node.end ≤ tokens)) nodes.items) }
+        ensures within { IfOk result (λ nodes. All (λ node. (node.start ≤ node.end) × (node.end ≤ tokens)) nodes.items) }
+        ensures apart { IfOk result (λ nodes. AllPairs (λ later node. node.end ≤ later.start) nodes.items) }
     {
         let mut failed = failed;
         let mut found = Vec::new(self.alloc);
         let mut newest = usize::MAX;
+        let mut limit = tokens;
         'nodes: for _ in 0..u64::MAX {
             let Some(at) = failed.pop() else {
                 break 'nodes;
@@ -99,8 +101,10 @@ impl Search {
             let element = self.elements.at(at);
             let is_first = at == 0 && found.is_empty();
             if element.behind <= newest && (is_first || is_of_some(element.kind)) {
+                let node = self.node(at, limit);
                 newest = at;
-                found.push(self.node(at, tokens))?;
+                limit = node.start;
+                found.push(node)?;
             }
         }
         Ok(found)
@@ -108,11 +112,13 @@ impl Search {
 }
 
 /// Returns the nodes of a tree that no category derives though it is of such nodes, each with none of them in it; the
-/// last one comes first. Where there is none it is the root. The tokens of each are some of the input.
+/// last one comes first. Where there is none it is the root, if no category derives that. The tokens of each are some of
+/// the input, and no token is in two nodes.
 ///
 /// The error means out of memory.
 pub fn find_outside(alloc: Global, input: &Input, output: &Output) -> Result<Vec<Outside>, NoMemory>
-    ensures { IfOk result (λ nodes. All (λ node. (node.start ≤ node.end) × (node.end ≤ length input.now)) nodes.items) }
+    ensures within { IfOk result (λ nodes. All (λ node. (node.start ≤ node.end) × (node.end ≤ length input.now)) nodes.items) }
+    ensures apart { IfOk result (λ nodes. AllPairs (λ later node. node.end ≤ later.start) nodes.items) }
 {
     let elements = elements_of(alloc, output)?;
     outside_along(alloc, input, elements)
@@ -124,7 +130,8 @@ pub(crate) fn outside_along(
     input: &Input,
     elements: Elements,
 ) -> Result<Vec<Outside>, NoMemory>
-    ensures { IfOk result (λ nodes. All (λ node. (node.start ≤ node.end) × (node.end ≤ length input.now)) nodes.items) }
+    ensures within { IfOk result (λ nodes. All (λ node. (node.start ≤ node.end) × (node.end ≤ length input.now)) nodes.items) }
+    ensures apart { IfOk result (λ nodes. AllPairs (λ later node. node.end ≤ later.start) nodes.items) }
 {
     let mut search = new_search(alloc, elements)?;
     let failed = search.failed(input)?;

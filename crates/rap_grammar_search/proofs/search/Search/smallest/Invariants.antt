@@ -1,5 +1,5 @@
-use Rattle.std.proofs.Common.{◌≤◌, All}
+use Rattle.rap_grammar_search.proofs.Apart.{IsApart}
 use Rattle.rap_grammar_search.proofs.search.Search.smallest.Given as goal
 
 abbrev pub invariant-nodes : goal.invariant-nodes
-invariant-nodes l = All (λ node. (node.start ≤ node.end) × (node.end ≤ l.tokens)) l.found.items
+invariant-nodes l = IsApart l.tokens l.limit l.found.items
