@@ -4,7 +4,7 @@ from collections.abc import Iterator
 from dataclasses import dataclass
 from typing import Any, Optional
 
-from support.derives import KINDS, Matcher, Piece, Record, Row, Rows
+from support.rows import KINDS, Piece, Record, Row, Rows
 
 # Texts of tokens that have none of their own.
 TEXTS = {
@@ -142,7 +142,7 @@ class Drawer:
         return all(self.holds(test, [*tokens, *it]) for it in (end, other))
 
     def holds(self, test: Any, tokens: list[Token]) -> bool:
-        return Matcher(self.rows, [it.record() for it in tokens[:8]]).holds(test, 0)
+        return self.rows.holds(test, [it.record() for it in tokens[:8]])
 
     def piece(self, it: Piece, found: Draw, depth: int) -> None:
         """Adds a derivation of a piece."""
