@@ -1,4 +1,4 @@
-# Completion of the words of rast, rast_page, rast_lex and rast_steps, for bash.
+# Completion of the words of rast, rast_core, rast_lex, rast_page and rast_steps, for bash.
 
 _rast_editions='2015 2018 2021 2024'
 _rast_entries='SourceFile MacroItems MacroStmts Pattern Type Expr MetaItem'
@@ -8,9 +8,9 @@ _rast_prefixes='Vis Block Stmt Pat PatTop Ty Expr Path Item MetaItem'
 _rast_choices() {
     case ${1##*/}:$#:${2-} in
         rast:2:*) echo "$_rast_editions" ;;
-        rast_page:2:* | rast_lex:2:*) echo "$_rast_editions --help --version" ;;
+        rast_core:2:* | rast_page:2:* | rast_lex:2:*) echo "$_rast_editions --help --version" ;;
         rast:3:* | rast_page:3:*) echo "$_rast_entries" ;;
-        rast:4:* | rast_page:4:* | rast_lex:3:*) echo FILE ;;
+        rast:4:* | rast_page:4:* | rast_lex:3:* | rast_core:3:*) echo FILE ;;
         rast:5:*) echo ranges ;;
         rast_lex:4:*) echo input single script ;;
         rast_steps:2:*) echo --steps --prefix --reparse --help --version ;;
@@ -33,4 +33,4 @@ _rast() {
     fi
 }
 
-complete -F _rast rast rast_page rast_lex rast_steps
+complete -F _rast rast rast_core rast_page rast_lex rast_steps

@@ -7,7 +7,7 @@ from concurrent.futures import ThreadPoolExecutor
 from packing import TOP, Refused, bytes_of, output, read
 
 # What is packed of the crates: the programs of the package rast, the language server, and the static library.
-RAST = ['rast', 'rast_lex', 'rast_page', 'rast_steps']
+RAST = ['rast', 'rast_core', 'rast_lex', 'rast_page', 'rast_steps']
 SERVER = 'rast_server'
 PROGRAMS = [*RAST, SERVER]
 LIBRARY = 'rap_c'

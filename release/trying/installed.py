@@ -21,7 +21,7 @@ endforeach()
 
 # The completion of a word of each program, as its manual says what the word may be.
 COMPLETED = {'rast 2024 M': 'MacroItems MacroStmts MetaItem', 'rast_page 20': '2015 2018 2021 2024',
-             'rast_lex 2024 FILE s': 'single script', 'rast_lex --': '--help --version',
+             'rast_lex 2024 FILE s': 'single script', 'rast_lex --': '--help --version', 'rast_core 201': '2015 2018',
              'rast_steps --prefix P': 'Pat PatTop Path'}
 
 
@@ -44,6 +44,9 @@ def try_programs(place: Place, before: str = '') -> None:
     status, out, _ = place.run(f'{before}rast_page 2024 Expr a.rs')
     wanted = '{"file":"a.rs","steps":[0,1,"LITERAL",2,"INT_NUMBER","7",0],"messages":[0]}'
     place.count.check(status == 0 and wanted in out, f'{before}rast_page: {status}, and not the page that is wanted')
+    outside = read('crates/rast_core/stdout')
+    place.prints(f'{before}rast_core 2021 outside.rs; echo $?', f'{outside}1\n')
+    place.prints(f"echo 'fn f() {{}}' | {before}rast_core 2021 /dev/stdin", '')
     for name in PROGRAMS[1:]:
         place.prints(f'{before}{name} --version', f'{name} {crate_version()}\n')
         status, out, _ = place.run(f'{before}{name} --help')
