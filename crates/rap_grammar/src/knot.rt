@@ -173,7 +173,7 @@ pub fn run(p: &mut Parser<'_>, rule: Rule) -> Result<Answer, NoMemory>
 /// halves what a level of nesting keeps on the stack.
 #[inline(always)]
 #[cycle(run)]
-#[tactic(auto, using(crate::proofs::Depth::more, crate::proofs::Depth::answers_so), unfolding(rap_grammar_scripts::specs::Knot::script_of))]
+#[tactic(auto, using(crate::proofs::Depth::more, crate::proofs::Depth::answers_so, rap_grammar_facts::proofs::UseItem::took_use_tree), unfolding(rap_grammar_scripts::specs::Knot::script_of))]
 fn run_brief(p: &mut Parser<'_>, brief: Brief, r: Restrictions, bp: u8) -> Result<Answer, NoMemory>
     requires { Pre (rule_of brief r bp) (state p.old) }
     ensures { IfOk result (Post (suc (state p.old).left) (rule_of brief r bp) (state p.old) (state p.new)) }

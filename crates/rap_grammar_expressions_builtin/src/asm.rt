@@ -1,16 +1,15 @@
 //! Inline assembly.
 //! In the Rust crate: `grammar/expressions/atom.rs`.
-ghost use Rattle.std.specs.Prelude.{ℕ, ◌≡◌, ◌≢◌, ◌<◌, ◌≤◌, IfOk, OnOk, IfSome, IsTrue, Some, None, true, false, if◌then◌else◌};
+ghost use Rattle.std.specs.Prelude.{◌≡◌, ◌<◌, IfOk, OnOk, IsTrue, Some, true, false, if◌then◌else◌};
 ghost use Rattle.rap_base.specs.Keyword.{is_any_identifier};
 ghost use Rattle.rap_base.specs.TokenKind.{EQ};
 ghost use Rattle.rap_base.specs.NodeKind.{ASM_EXPR};
 ghost use Rattle.rap_events.specs.State.{state, next, NthAt};
 ghost use Rattle.rap_grammar_scripts.specs.Asm as script;
 ghost use Rattle.rap_grammar_scripts.specs.ThroughKnot as through_knot_script;
-ghost use Rattle.rap_grammar_frame.specs.Grew.{Behind, Closes, Grew, Took, Gone, Ended};
+ghost use Rattle.rap_grammar_frame.specs.Grew.{Behind, Closes};
 ghost use Rattle.rap_grammar_scripts.specs.Exec.{Does};
-ghost use Rattle.rap_grammar_frame.specs.Room.{asm_room, asm_end_room, operand_room, expression_room, name_room, recovery_events};
-ghost use Rattle.rap_grammar_frame.specs.Rules.{Missed};
+ghost use Rattle.rap_grammar_facts.specs.Alone.{DoesAlone};
 ghost use Rattle.rap_grammar_scripts.specs.Script.{something, again};
 ghost use Rattle.rap_grammar_scripts.specs.Test.{holds};
 ghost use Rattle.rap_grammar_scripts.specs.Words.{of_bool};
@@ -29,6 +28,7 @@ use rap_grammar_scripts::arguments::Restrictions;
 use rap_grammar_scripts::rule::Rule;
 
 /// Inline assembly after its name, as `("nop", in(reg) a)`.
+#[tactic(auto, using(rap_grammar_facts::proofs::Asm::grew_asm_template, rap_grammar_facts::proofs::Asm::grew_asm_pieces))]
 pub fn parse_asm_expr<G: Grammar>(
     p: &mut Parser<'_>,
     g: &G,
@@ -36,7 +36,7 @@ pub fn parse_asm_expr<G: Grammar>(
 ) -> Result<CompletedMarker, NoMemory>
     requires behind { Behind G.valid G.left g.now (state p.old) }
     requires newest { (state p.old).marker ≡ Some m.pos.value }
-    ensures closes { IfOk result (Closes ASM_EXPR 16 (state p.old) (state p.new)) }
+    ensures closes { IfOk result (Closes ASM_EXPR 100 (state p.old) (state p.new)) }
     ensures script { OnOk result (Does (G.left g.now) script.parse_asm_expr something (state p.old) (state p.new)) }
 {
     p.expect(T!['('])?;
@@ -48,10 +48,9 @@ pub fn parse_asm_expr<G: Grammar>(
 }
 
 /// What stands after the first template, up to the bracket that closes.
-#[tactic(auto, using(rap_grammar_frame::proofs::Loops::turns), unfolding(rap_grammar_scripts::specs::Asm::asm_pieces))]
+#[tactic(auto, using(rap_grammar_facts::proofs::Alone::kept, rap_grammar_frame::proofs::Loops::turns), unfolding(rap_grammar_scripts::specs::Asm::asm_pieces))]
 fn asm_pieces<G: Grammar>(p: &mut Parser<'_>, g: &G) -> Result<(), NoMemory>
     requires behind { Behind G.valid G.left g.now (state p.old) }
-    ensures grew { OnOk result (Grew (state p.old) (state p.new) 1) }
     ensures script { OnOk result (Does (G.left g.now) script.asm_pieces something (state p.old) (state p.new)) }
 {
     let mut allow_templates = true;
@@ -70,15 +69,13 @@ fn asm_pieces<G: Grammar>(p: &mut Parser<'_>, g: &G) -> Result<(), NoMemory>
 }
 
 /// What stands after a comma. Returns whether templates may follow, or `None` where the list ends.
-#[tactic(auto, using(crate::proofs::Taken::operand_took), unfolding(rap_grammar_scripts::specs::Asm::asm_piece))]
+#[tactic(auto, using(rap_grammar_facts::proofs::Asm::facts), unfolding(rap_grammar_scripts::specs::Asm::asm_piece))]
 fn asm_piece<G: Grammar>(
     p: &mut Parser<'_>,
     g: &G,
     allow_templates: bool,
 ) -> Result<Option<bool>, NoMemory>
     requires behind { Behind G.valid G.left g.now (state p.old) }
-    ensures grew { OnOk result (Grew (state p.old) (state p.new) 20) }
-    ensures took { OnOk result (0 < (state p.old).left → Took (state p.old) (state p.new) 64) }
     ensures script { IfOk result
         (λ o. Does (G.left g.now) (script.asm_piece allow_templates) (script.of_allow o) (state p.old) (state p.new)) }
 {
@@ -100,7 +97,7 @@ fn asm_piece<G: Grammar>(
 
 /// An operand with its name, as `x = inout(reg) x`, or what stands in its place, from its marker on. Returns what
 /// `asm_piece` does.
-#[tactic(auto, unfolding(rap_grammar_scripts::specs::Asm::named_operand, rap_events::specs::Machine::top))]
+#[tactic(auto, using(rap_grammar_facts::proofs::Alone::kept, rap_grammar_facts::proofs::Asm::level_operand_name, rap_grammar_facts::proofs::Asm::level_asm_operand), unfolding(rap_grammar_scripts::specs::Asm::named_operand, rap_events::specs::Machine::top))]
 fn named_operand<G: Grammar>(
     p: &mut Parser<'_>,
     g: &G,
@@ -109,8 +106,6 @@ fn named_operand<G: Grammar>(
 ) -> Result<Option<bool>, NoMemory>
     requires behind { Behind G.valid G.left g.now (state p.old) }
     requires newest { (state p.old).marker ≡ Some op_n.pos.value }
-    ensures gone { OnOk result (Gone (state p.old) (state p.new) 19) }
-    ensures ended { OnOk result (0 < (state p.old).left → Ended (state p.old) (state p.new) asm_room) }
     ensures script { IfOk result
         (λ o. Does (G.left g.now) (script.named_operand allow_templates) (script.of_allow o) (state p.old)
         (state p.new)) }
@@ -140,8 +135,6 @@ fn no_operand<G: Grammar>(
     allow_templates: bool,
 ) -> Result<Option<bool>, NoMemory>
     requires behind { Behind G.valid G.left g.now (state p.old) }
-    ensures grew { OnOk result (Grew (state p.old) (state p.new) 11) }
-    ensures took { OnOk result (0 < (state p.old).left → Took (state p.old) (state p.new) asm_end_room) }
     ensures script { IfOk result
         (λ o. Does (G.left g.now) (script.no_operand allow_templates) (script.of_allow o) (state p.old) (state p.new)) }
 {
@@ -157,11 +150,9 @@ fn no_operand<G: Grammar>(
 }
 
 /// A message where no operand stands, with the block or the token that stands there.
-#[tactic(auto, using(crate::proofs::Taken::skip_took, rap_grammar_frame::proofs::Left::left_past, rap_grammar_frame::proofs::Steps::by_report), unfolding(rap_grammar_scripts::specs::Asm::missing_operand))]
+#[tactic(auto, using(rap_grammar_frame::proofs::Steps::by_report), unfolding(rap_grammar_scripts::specs::Asm::missing_operand))]
 fn missing_operand<G: Grammar>(p: &mut Parser<'_>, g: &G) -> Result<(), NoMemory>
     requires behind { Behind G.valid G.left g.now (state p.old) }
-    ensures grew { OnOk result (Grew (state p.old) (state p.new) 11) }
-    ensures took { OnOk result (0 < (state p.old).left → Took (state p.old) (state p.new) asm_end_room) }
     ensures script { OnOk result (Does (G.left g.now) script.missing_operand something (state p.old) (state p.new)) }
 {
     if p.at(T!['{']) {
@@ -174,11 +165,9 @@ fn missing_operand<G: Grammar>(p: &mut Parser<'_>, g: &G) -> Result<(), NoMemory
 }
 
 /// A line of the assembly. Anything else is skipped.
-#[tactic(auto, using(crate::proofs::Taken::missed_took, rap_grammar_frame::proofs::Left::left_past), unfolding(rap_grammar_scripts::specs::Asm::asm_template))]
+#[tactic(auto, unfolding(rap_grammar_scripts::specs::Asm::asm_template))]
 fn asm_template<G: Grammar>(p: &mut Parser<'_>, g: &G) -> Result<(), NoMemory>
     requires behind { Behind G.valid G.left g.now (state p.old) }
-    ensures grew { OnOk result (Grew (state p.old) (state p.new) 11) }
-    ensures took { OnOk result (0 < (state p.old).left → Took (state p.old) (state p.new) asm_end_room) }
     ensures script { OnOk result (Does (G.left g.now) script.asm_template something (state p.old) (state p.new)) }
 {
     if some_expr(p, g)? {
@@ -192,9 +181,6 @@ fn asm_template<G: Grammar>(p: &mut Parser<'_>, g: &G) -> Result<(), NoMemory>
 #[tactic(auto, unfolding(rap_grammar_scripts::specs::ThroughKnot::expr))]
 fn some_expr<G: Grammar>(p: &mut Parser<'_>, g: &G) -> Result<bool, NoMemory>
     requires behind { Behind G.valid G.left g.now (state p.old) }
-    ensures grew { OnOk result (Grew (state p.old) (state p.new) 8) }
-    ensures took { IfOk result (λ found. found ≡ true → Took (state p.old) (state p.new) expression_room) }
-    ensures missed { IfOk result (λ found. found ≡ false → Missed (state p.old) (state p.new)) }
     ensures script { IfOk result
         (λ found. Does (G.left g.now) through_knot_script.expr (of_bool found) (state p.old) (state p.new)) }
 {
@@ -211,11 +197,7 @@ fn some_expr<G: Grammar>(p: &mut Parser<'_>, g: &G) -> Result<bool, NoMemory>
 /// An operand's name and its `=`, as `x =`, if they come next. Returns whether they do.
 #[tactic(auto, unfolding(rap_grammar_scripts::specs::Asm::operand_name))]
 fn operand_name(p: &mut Parser<'_>) -> Result<bool, NoMemory>
-    ensures grew { OnOk result (Grew (state p.old) (state p.new) 0) }
-    ensures took { IfOk result (λ found. found ≡ true → Took (state p.old) (state p.new) name_room) }
-    ensures stays { IfOk result (λ found. found ≡ false → state p.new ≡ state p.old) }
-    ensures script { IfOk result
-        (λ found. (depth : ℕ) → Does depth script.operand_name (of_bool found) (state p.old) (state p.new)) }
+    ensures script { IfOk result (λ found. DoesAlone script.operand_name (of_bool found) (state p.old) (state p.new)) }
 {
     if !starts_operand_name(p) {
         return Ok(false);
@@ -235,12 +217,9 @@ fn starts_operand_name(p: &Parser<'_>) -> bool
 }
 
 /// An operand without its name, as `in(reg) x`, if one comes next. Returns whether one does.
-#[tactic(auto, using(crate::proofs::Taken::by_dir), unfolding(rap_grammar_scripts::specs::Asm::asm_operand))]
+#[tactic(auto, using(rap_grammar_facts::proofs::Alone::kept, rap_grammar_facts::proofs::Asm::level_dir_spec, rap_grammar_facts::proofs::Asm::level_reg_operand, rap_grammar_facts::proofs::Asm::level_asm_sym, crate::proofs::Lines::by_dir), unfolding(rap_grammar_scripts::specs::Asm::asm_operand))]
 fn asm_operand<G: Grammar>(p: &mut Parser<'_>, g: &G) -> Result<bool, NoMemory>
     requires behind { Behind G.valid G.left g.now (state p.old) }
-    ensures took { IfOk result (λ found. found ≡ true → Took (state p.old) (state p.new) operand_room) }
-    ensures grew { IfOk result (λ found. found ≡ false → Grew (state p.old) (state p.new) 4) }
-    ensures stays { IfOk result (λ found. found ≡ false → (state p.new).left ≡ (state p.old).left) }
     ensures script { IfOk result
         (λ found. Does (G.left g.now) script.asm_operand (of_bool found) (state p.old) (state p.new)) }
 {
@@ -273,11 +252,7 @@ fn asm_operand<G: Grammar>(p: &mut Parser<'_>, g: &G) -> Result<bool, NoMemory>
 /// such word comes next.
 #[tactic(auto, unfolding(rap_grammar_scripts::specs::Asm::dir_spec))]
 fn dir_spec(p: &mut Parser<'_>) -> Result<Option<bool>, NoMemory>
-    ensures took { IfOk result (λ o. IfSome o (λ both. Took (state p.old) (state p.new) name_room)) }
-    ensures grew { IfOk result (λ o. o ≡ None → Grew (state p.old) (state p.new) 2) }
-    ensures stays { IfOk result (λ o. o ≡ None → (state p.new).left ≡ (state p.old).left) }
-    ensures script { IfOk result
-        (λ o. (depth : ℕ) → Does depth script.dir_spec (script.of_way o) (state p.old) (state p.new)) }
+    ensures script { IfOk result (λ o. DoesAlone script.dir_spec (script.of_way o) (state p.old) (state p.new)) }
 {
     let m = p.start()?;
     if p.eat(T![in])? {
@@ -306,10 +281,9 @@ fn dir_spec(p: &mut Parser<'_>) -> Result<Option<bool>, NoMemory>
 
 /// A register operand after its direction, as `(reg) x`. If it is in and out, another place may follow for the output,
 /// as in `(reg) x => y`.
-#[tactic(auto, unfolding(rap_grammar_scripts::specs::Asm::reg_operand))]
+#[tactic(auto, using(rap_grammar_facts::proofs::Asm::facts), unfolding(rap_grammar_scripts::specs::Asm::reg_operand))]
 fn reg_operand<G: Grammar>(p: &mut Parser<'_>, g: &G, goes_both_ways: bool) -> Result<(), NoMemory>
     requires behind { Behind G.valid G.left g.now (state p.old) }
-    ensures grew { OnOk result (Grew (state p.old) (state p.new) 15) }
     ensures script { OnOk result
         (Does (G.left g.now) (script.reg_operand goes_both_ways) something (state p.old) (state p.new)) }
 {
@@ -333,7 +307,6 @@ fn reg_operand<G: Grammar>(p: &mut Parser<'_>, g: &G, goes_both_ways: bool) -> R
 #[tactic(auto, unfolding(rap_grammar_scripts::specs::Asm::asm_sym))]
 fn asm_sym<G: Grammar>(p: &mut Parser<'_>, g: &G) -> Result<(), NoMemory>
     requires behind { Behind G.valid G.left g.now (state p.old) }
-    ensures grew { OnOk result (Grew (state p.old) (state p.new) 8) }
     ensures script { OnOk result (Does (G.left g.now) script.asm_sym something (state p.old) (state p.new)) }
 {
     if p.at(T!['(']) {
@@ -348,8 +321,7 @@ fn asm_sym<G: Grammar>(p: &mut Parser<'_>, g: &G) -> Result<(), NoMemory>
 
 /// The register of an operand, as `(reg)` and `("eax")`.
 fn parse_reg(p: &mut Parser<'_>) -> Result<(), NoMemory>
-    ensures grew { OnOk result (Grew (state p.old) (state p.new) 5) }
-    ensures script { OnOk result ((depth : ℕ) → Does depth script.parse_reg something (state p.old) (state p.new)) }
+    ensures script { OnOk result (DoesAlone script.parse_reg something (state p.old) (state p.new)) }
 {
     p.expect(T!['('])?;
     reg_spec(p)?;
@@ -360,8 +332,7 @@ fn parse_reg(p: &mut Parser<'_>) -> Result<(), NoMemory>
 /// The name of a register or of a class of registers.
 #[tactic(auto, unfolding(rap_grammar_scripts::specs::Asm::reg_spec))]
 fn reg_spec(p: &mut Parser<'_>) -> Result<(), NoMemory>
-    ensures grew { OnOk result (Grew (state p.old) (state p.new) recovery_events) }
-    ensures script { OnOk result ((depth : ℕ) → Does depth script.reg_spec something (state p.old) (state p.new)) }
+    ensures script { OnOk result (DoesAlone script.reg_spec something (state p.old) (state p.new)) }
 {
     if is_path_name(p.current()) {
         let m = p.start()?;
@@ -380,11 +351,8 @@ fn reg_spec(p: &mut Parser<'_>) -> Result<(), NoMemory>
 }
 
 /// The clobbered ABIs, as `("C", "system")`.
-#[tactic(auto, using(rap_grammar_frame::proofs::Steps::by_expect, rap_grammar_scripts::proofs::Ends::gives), unfolding(rap_grammar_scripts::specs::Asm::parse_clobber_abi))]
 fn parse_clobber_abi(p: &mut Parser<'_>) -> Result<(), NoMemory>
-    ensures grew { OnOk result (Grew (state p.old) (state p.new) 2) }
-    ensures script { OnOk result
-        ((depth : ℕ) → Does depth script.parse_clobber_abi something (state p.old) (state p.new)) }
+    ensures script { OnOk result (DoesAlone script.parse_clobber_abi something (state p.old) (state p.new)) }
 {
     p.expect(T!['('])?;
     clobber_abis(p)?;
@@ -392,9 +360,9 @@ fn parse_clobber_abi(p: &mut Parser<'_>) -> Result<(), NoMemory>
 }
 
 /// The names of ABIs, and the bracket that closes.
+#[tactic(auto, using(rap_grammar_facts::proofs::Asm::facts), unfolding(rap_grammar_scripts::specs::Asm::clobber_abis))]
 fn clobber_abis(p: &mut Parser<'_>) -> Result<(), NoMemory>
-    ensures grew { OnOk result (Grew (state p.old) (state p.new) 1) }
-    ensures script { OnOk result ((depth : ℕ) → Does depth script.clobber_abis something (state p.old) (state p.new)) }
+    ensures script { OnOk result (DoesAlone script.clobber_abis something (state p.old) (state p.new)) }
 {
     'abis: loop {
         let more = next_abi(p)?;
@@ -406,10 +374,8 @@ fn clobber_abis(p: &mut Parser<'_>) -> Result<(), NoMemory>
 
 /// The name of an ABI and its comma, or the bracket that closes. Returns whether another may follow.
 fn next_abi(p: &mut Parser<'_>) -> Result<bool, NoMemory>
-    ensures grew { IfOk result (λ more. Grew (state p.old) (state p.new) (if more then 0 else 1)) }
-    ensures less { IfOk result (λ more. more ≡ true → (state p.new).left < (state p.old).left) }
     ensures script { IfOk result
-        (λ more. (depth : ℕ) → Does depth (script.clobber_turn false false)
+        (λ more. DoesAlone (script.clobber_turn false false)
         (if more then again false false else something) (state p.old) (state p.new)) }
 {
     if p.at(SyntaxKind::EOF) {
@@ -430,10 +396,8 @@ fn next_abi(p: &mut Parser<'_>) -> Result<bool, NoMemory>
 }
 
 /// The options of the assembly, as `(nomem, nostack)`.
-#[tactic(auto, using(rap_grammar_frame::proofs::Steps::by_expect, rap_grammar_scripts::proofs::Ends::gives), unfolding(rap_grammar_scripts::specs::Asm::parse_options))]
 fn parse_options(p: &mut Parser<'_>) -> Result<(), NoMemory>
-    ensures grew { OnOk result (Grew (state p.old) (state p.new) 1) }
-    ensures script { OnOk result ((depth : ℕ) → Does depth script.parse_options something (state p.old) (state p.new)) }
+    ensures script { OnOk result (DoesAlone script.parse_options something (state p.old) (state p.new)) }
 {
     p.expect(T!['('])?;
     asm_options(p)?;
@@ -441,9 +405,9 @@ fn parse_options(p: &mut Parser<'_>) -> Result<(), NoMemory>
 }
 
 /// Options, and the bracket that closes.
+#[tactic(auto, using(rap_grammar_facts::proofs::Asm::facts), unfolding(rap_grammar_scripts::specs::Asm::asm_options))]
 fn asm_options(p: &mut Parser<'_>) -> Result<(), NoMemory>
-    ensures grew { OnOk result (Grew (state p.old) (state p.new) 0) }
-    ensures script { OnOk result ((depth : ℕ) → Does depth script.asm_options something (state p.old) (state p.new)) }
+    ensures script { OnOk result (DoesAlone script.asm_options something (state p.old) (state p.new)) }
 {
     'options: loop {
         let more = next_option(p)?;
@@ -454,11 +418,10 @@ fn asm_options(p: &mut Parser<'_>) -> Result<(), NoMemory>
 }
 
 /// An option and its comma, or the bracket that closes. Anything else is skipped. Returns whether another may follow.
+#[tactic(auto, using(rap_grammar_facts::proofs::Asm::facts))]
 fn next_option(p: &mut Parser<'_>) -> Result<bool, NoMemory>
-    ensures grew { OnOk result (Grew (state p.old) (state p.new) 0) }
-    ensures less { IfOk result (λ more. more ≡ true → (state p.new).left < (state p.old).left) }
     ensures script { IfOk result
-        (λ more. (depth : ℕ) → Does depth (script.options_turn false false)
+        (λ more. DoesAlone (script.options_turn false false)
         (if more then again false false else something) (state p.old) (state p.new)) }
 {
     if p.at(SyntaxKind::EOF) {
@@ -485,10 +448,7 @@ fn next_option(p: &mut Parser<'_>) -> Result<bool, NoMemory>
 /// An option: what the assembly does to memory. Returns whether one comes next.
 #[tactic(auto, unfolding(rap_grammar_scripts::specs::Asm::option_name))]
 fn option_name(p: &mut Parser<'_>) -> Result<bool, NoMemory>
-    ensures took { IfOk result (λ found. found ≡ true → Took (state p.old) (state p.new) name_room) }
-    ensures stays { IfOk result (λ found. found ≡ false → state p.new ≡ state p.old) }
-    ensures script { IfOk result
-        (λ found. (depth : ℕ) → Does depth script.option_name (of_bool found) (state p.old) (state p.new)) }
+    ensures script { IfOk result (λ found. DoesAlone script.option_name (of_bool found) (state p.old) (state p.new)) }
 {
     if p.eat_contextual_kw(T![pure])? {
         return Ok(true);
@@ -509,10 +469,7 @@ fn option_name(p: &mut Parser<'_>) -> Result<bool, NoMemory>
 /// An option: where the assembly goes on, and how it is written. Returns whether one comes next.
 #[tactic(auto, unfolding(rap_grammar_scripts::specs::Asm::flow_option))]
 fn flow_option(p: &mut Parser<'_>) -> Result<bool, NoMemory>
-    ensures took { IfOk result (λ found. found ≡ true → Took (state p.old) (state p.new) name_room) }
-    ensures stays { IfOk result (λ found. found ≡ false → state p.new ≡ state p.old) }
-    ensures script { IfOk result
-        (λ found. (depth : ℕ) → Does depth script.flow_option (of_bool found) (state p.old) (state p.new)) }
+    ensures script { IfOk result (λ found. DoesAlone script.flow_option (of_bool found) (state p.old) (state p.new)) }
 {
     if p.eat_contextual_kw(T![noreturn])? {
         return Ok(true);

@@ -1,15 +1,16 @@
 //! The forms after `builtin#`.
 //! In the Rust crate: `grammar/expressions/atom.rs`.
-ghost use Rattle.std.specs.Prelude.{ℕ, ◌≡◌, ◌≢◌, ◌<◌, ◌≤◌, IfOk, OnOk, IfSome, IsTrue, Some, None, true, false, if◌then◌else◌, ◌⊎◌};
+ghost use Rattle.std.specs.Prelude.{◌≡◌, ◌≢◌, ◌<◌, ◌≤◌, IfOk, OnOk, IfSome, IsTrue, Some, None, true, false, if◌then◌else◌, ◌⊎◌};
 ghost use Rattle.rap_base.specs.Keyword.{is_any_identifier};
 ghost use Rattle.rap_base.specs.TokenKind.{EQ};
 ghost use Rattle.rap_events.specs.Fit.{is_plain};
 ghost use Rattle.rap_events.specs.State.{state, next, NthAt};
 ghost use Rattle.rap_grammar_scripts.specs.Builtin as script;
 ghost use Rattle.rap_grammar_scripts.specs.Words.{of_expr, of_bool, of_option, starts_builtin};
-ghost use Rattle.rap_grammar_frame.specs.Grew.{Within, Behind, Took, Grew, Gone, Closes};
+ghost use Rattle.rap_grammar_frame.specs.Grew.{Within, Behind, Gone, Closes};
 ghost use Rattle.rap_grammar_scripts.specs.Exec.{Does};
-ghost use Rattle.rap_grammar_frame.specs.Room.{atom_room, name_room};
+ghost use Rattle.rap_grammar_facts.specs.Alone.{DoesAlone};
+ghost use Rattle.rap_grammar_frame.specs.Room.{atom_room};
 ghost use Rattle.rap_grammar_frame.specs.Rules.{Operand};
 ghost use Rattle.rap_grammar_scripts.specs.Script.{something, again};
 ghost use Rattle.rap_grammar_scripts.specs.Test.{holds};
@@ -27,7 +28,7 @@ use rap_grammar_scripts::rule::Rule;
 
 /// An expression after `builtin#`, as `builtin#offset_of(a, b)`. An unknown name is reported and not taken.
 #[inline(never)]
-#[tactic(auto, unfolding(rap_grammar_scripts::specs::Builtin::builtin_expr))]
+#[tactic(auto, using(rap_grammar_facts::proofs::Builtin::grew_offset_of, rap_grammar_facts::proofs::Builtin::grew_format_args), unfolding(rap_grammar_scripts::specs::Builtin::builtin_expr))]
 pub fn builtin_expr<G: Grammar>(p: &mut Parser<'_>, g: &G) -> Result<Answer, NoMemory>
     requires within { Within G.valid G.left g.now (state p.old) }
     requires here { holds starts_builtin (state p.old).rest ≡ true }
@@ -56,7 +57,7 @@ pub fn builtin_expr<G: Grammar>(p: &mut Parser<'_>, g: &G) -> Result<Answer, NoM
 
 /// Inline assembly, `include_bytes` or `cfg(a)`, from the marker on. None, and a message in an `ERROR` over what the
 /// marker has, where none of these names comes next.
-#[tactic(auto, unfolding(rap_grammar_scripts::specs::Builtin::other_builtin))]
+#[tactic(auto, using(rap_grammar_facts::proofs::Builtin::grew_asm_name, rap_grammar_facts::proofs::Builtin::grew_cfg), unfolding(rap_grammar_scripts::specs::Builtin::other_builtin))]
 fn other_builtin<G: Grammar>(
     p: &mut Parser<'_>,
     g: &G,
@@ -64,7 +65,7 @@ fn other_builtin<G: Grammar>(
 ) -> Result<Option<CompletedMarker>, NoMemory>
     requires behind { Behind G.valid G.left g.now (state p.old) }
     requires newest { (state p.old).marker ≡ Some m.pos.value }
-    ensures closes { IfOk result (λ o. IfSome o (λ cm. Closes cm.kind.value 16 (state p.old) (state p.new) cm)) }
+    ensures closes { IfOk result (λ o. IfSome o (λ cm. Closes cm.kind.value 100 (state p.old) (state p.new) cm)) }
     ensures plain { IfOk result (λ o. IfSome o (λ cm. is_plain cm.kind.value ≡ true)) }
     ensures gone { IfOk result (λ o. o ≡ None → Gone (state p.old) (state p.new) 2) }
     ensures reported { IfOk result (λ o. o ≡ None → (state p.old).messages < (state p.new).messages) }
@@ -92,10 +93,7 @@ fn other_builtin<G: Grammar>(
 /// The name of one of the kinds of inline assembly. Returns whether one comes next.
 #[tactic(auto, unfolding(rap_grammar_scripts::specs::Builtin::asm_name))]
 fn asm_name(p: &mut Parser<'_>) -> Result<bool, NoMemory>
-    ensures took { IfOk result (λ found. found ≡ true → Took (state p.old) (state p.new) name_room) }
-    ensures stays { IfOk result (λ found. found ≡ false → state p.new ≡ state p.old) }
-    ensures script { IfOk result
-        (λ found. (depth : ℕ) → Does depth script.asm_name (of_bool found) (state p.old) (state p.new)) }
+    ensures script { IfOk result (λ found. DoesAlone script.asm_name (of_bool found) (state p.old) (state p.new)) }
 {
     if p.eat_contextual_kw(T![asm])? {
         return Ok(true);
@@ -112,7 +110,6 @@ fn asm_name(p: &mut Parser<'_>) -> Result<bool, NoMemory>
 /// A type and a field in it, as `(a, b.0)` and `(a, (b.0))`.
 fn offset_of<G: Grammar>(p: &mut Parser<'_>, g: &G) -> Result<(), NoMemory>
     requires behind { Behind G.valid G.left g.now (state p.old) }
-    ensures grew { OnOk result (Grew (state p.old) (state p.new) 12) }
     ensures script { OnOk result (Does (G.left g.now) script.offset_of something (state p.old) (state p.new)) }
 {
     p.expect(T!['('])?;
@@ -131,10 +128,9 @@ fn offset_of<G: Grammar>(p: &mut Parser<'_>, g: &G) -> Result<(), NoMemory>
 }
 
 /// The fields on the way to the one whose place is asked for, as `b.0`.
+#[tactic(auto, using(rap_grammar_facts::proofs::Builtin::facts), unfolding(rap_grammar_scripts::specs::Builtin::offset_of_fields))]
 fn offset_of_fields(p: &mut Parser<'_>) -> Result<(), NoMemory>
-    ensures grew { OnOk result (Grew (state p.old) (state p.new) 0) }
-    ensures script { OnOk result
-        ((depth : ℕ) → Does depth script.offset_of_fields something (state p.old) (state p.new)) }
+    ensures script { OnOk result (DoesAlone script.offset_of_fields something (state p.old) (state p.new)) }
 {
     'fields: loop {
         let more = next_field(p)?;
@@ -146,10 +142,8 @@ fn offset_of_fields(p: &mut Parser<'_>) -> Result<(), NoMemory>
 
 /// A field and the dot after it. Returns whether there was one.
 fn next_field(p: &mut Parser<'_>) -> Result<bool, NoMemory>
-    ensures grew { OnOk result (Grew (state p.old) (state p.new) 0) }
-    ensures less { IfOk result (λ more. more ≡ true → (state p.new).left < (state p.old).left) }
     ensures script { IfOk result
-        (λ more. (depth : ℕ) → Does depth (script.fields_turn false false)
+        (λ more. DoesAlone (script.fields_turn false false)
         (if more then again false false else something) (state p.old) (state p.new)) }
 {
     if p.at(SyntaxKind::EOF) {
@@ -167,9 +161,9 @@ fn next_field(p: &mut Parser<'_>) -> Result<bool, NoMemory>
 }
 
 /// A text and its arguments, as `("{} {b}", a, b = 1)`.
+#[tactic(auto, using(rap_grammar_facts::proofs::Builtin::facts))]
 fn format_args<G: Grammar>(p: &mut Parser<'_>, g: &G) -> Result<(), NoMemory>
     requires behind { Behind G.valid G.left g.now (state p.old) }
-    ensures grew { OnOk result (Grew (state p.old) (state p.new) 20) }
     ensures script { OnOk result (Does (G.left g.now) script.format_args something (state p.old) (state p.new)) }
 {
     p.expect(T!['('])?;
@@ -184,10 +178,9 @@ fn format_args<G: Grammar>(p: &mut Parser<'_>, g: &G) -> Result<(), NoMemory>
 }
 
 /// The arguments of a text. They end where no expression follows.
-#[tactic(auto, using(rap_grammar_frame::proofs::Loops::turns), unfolding(rap_grammar_scripts::specs::Builtin::format_arguments))]
+#[tactic(auto, using(rap_grammar_facts::proofs::Builtin::facts, rap_grammar_frame::proofs::Loops::turns), unfolding(rap_grammar_scripts::specs::Builtin::format_arguments))]
 fn format_arguments<G: Grammar>(p: &mut Parser<'_>, g: &G) -> Result<(), NoMemory>
     requires behind { Behind G.valid G.left g.now (state p.old) }
-    ensures grew { OnOk result (Grew (state p.old) (state p.new) 10) }
     ensures script { OnOk result (Does (G.left g.now) script.format_arguments something (state p.old) (state p.new)) }
 {
     'arguments: while !p.at(SyntaxKind::EOF) && !p.at(T![')']) {
@@ -208,8 +201,7 @@ fn format_arguments<G: Grammar>(p: &mut Parser<'_>, g: &G) -> Result<(), NoMemor
 /// The name of an argument and its `=`, as `b =`, if they come next.
 #[tactic(auto, unfolding(rap_grammar_scripts::specs::Builtin::opt_arg_name))]
 fn opt_arg_name(p: &mut Parser<'_>) -> Result<(), NoMemory>
-    ensures grew { OnOk result (Grew (state p.old) (state p.new) 0) }
-    ensures script { OnOk result ((depth : ℕ) → Does depth script.opt_arg_name something (state p.old) (state p.new)) }
+    ensures script { OnOk result (DoesAlone script.opt_arg_name something (state p.old) (state p.new)) }
 {
     if !starts_arg_name(p) {
         return Ok(());
@@ -231,7 +223,6 @@ fn starts_arg_name(p: &Parser<'_>) -> bool
 /// A condition in its brackets, as `(unix)`.
 fn cfg<G: Grammar>(p: &mut Parser<'_>, g: &G) -> Result<(), NoMemory>
     requires behind { Behind G.valid G.left g.now (state p.old) }
-    ensures grew { OnOk result (Grew (state p.old) (state p.new) 10) }
     ensures script { OnOk result (Does (G.left g.now) script.cfg something (state p.old) (state p.new)) }
 {
     p.expect(T!['('])?;

@@ -24,7 +24,7 @@ use rap_grammar_params::params::param_list_closure;
 
 /// A closure, as `|a| b`.
 #[inline(never)]
-#[tactic(auto, using(rap_grammar_params::proofs::Lines::closure_took), unfolding(rap_grammar_scripts::specs::Closures::closure_expr))]
+#[tactic(auto, using(rap_grammar_facts::proofs::Params::took_param_list_closure), unfolding(rap_grammar_scripts::specs::Closures::closure_expr))]
 pub fn closure_expr<G: Grammar>(p: &mut Parser<'_>, g: &G) -> Result<CompletedMarker, NoMemory>
     requires within { Within G.valid G.left g.now (state p.old) }
     requires here { holds is_closure (state p.old).rest ≡ true }

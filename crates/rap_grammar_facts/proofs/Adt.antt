@@ -1,8 +1,21 @@
 -- What is computed of the scripts of Adt: the open nodes are as before, and a token is taken.
 -- Written by crates/rap_grammar_facts/facts from the scripts: an edit here is lost.
-use Rattle.std.proofs.Common.{◌≡◌, ℕ, Bool, true, false, List, refl}
+use Rattle.std.proofs.Common.{◌≡◌, ◌<◌, ℕ, Bool, true, false, List, Some, refl}
+use Rattle.rap_base.specs.TokenKind.{EOF, R_CURLY}
+use Rattle.rap_events.specs.Composite.{is_at}
+use Rattle.rap_events.specs.State.{state}
+use Rattle.rap_events.specs.declared.parser.Parser.{Parser}
 use Rattle.rap_grammar_scripts.specs.Effects.{level}
-use Rattle.rap_grammar_scripts.specs.Moves.{moves}
+use Rattle.rap_grammar_scripts.specs.Exec.{Does}
+use Rattle.rap_grammar_scripts.specs.Script.{Outcome, something}
+use Rattle.rap_grammar_scripts.specs.Words.{of_bool}
+use Rattle.rap_grammar_frame.specs.Grew.{Grew, Took, Ended}
+use Rattle.rap_grammar_frame.specs.Room.{element_room, list_room, item_room}
+use Rattle.rap_grammar_frame.proofs.Done.{moved, took}
+use Rattle.rap_grammar_frame.proofs.Ended.{ended}
+use Rattle.rap_grammar_facts.proofs.Alone.{kept}
+use Rattle.rap_grammar_facts.proofs.Grown.{element_grew, element_took}
+use Rattle.rap_grammar_facts.proofs.Moved.{moved_inside}
 use Rattle.rap_grammar_scripts.proofs.Scripts.{scripts}
 use Rattle.rap_grammar_scripts.specs.Adt as script
 
@@ -22,9 +35,11 @@ pub level_mut_restriction : level script.mut_restriction ≡ true
 unfolding scripts
 level_mut_restriction = refl
 
-pub moves_mut_restriction : (k : ℕ) → moves script.mut_restriction k ≡ true
+pub moved_mut_restriction : {n : ℕ} {v : Outcome} → (p q : Parser) →
+    Does n script.mut_restriction v (state p) (state q) →
+    (state q).left < (state p).left
 unfolding scripts
-moves_mut_restriction k = refl
+moved_mut_restriction p q d = moved p q d refl
 
 pub level_opt_mut_restriction : level script.opt_mut_restriction ≡ true
 unfolding scripts
@@ -42,6 +57,13 @@ pub level_field_or_block : level script.field_or_block ≡ true
 unfolding scripts
 level_field_or_block = refl
 
+pub inside_field_or_block : {n : ℕ} {v : Outcome} → (p q : Parser) →
+    Does n script.field_or_block v (state p) (state q) →
+    is_at EOF (state p).rest ≡ false → is_at R_CURLY (state p).rest ≡ false →
+    (state q).left < (state p).left
+unfolding scripts
+inside_field_or_block p q d e f = moved_inside p q d e f refl
+
 pub level_record_fields : level script.record_fields ≡ true
 unfolding scripts
 level_record_fields = refl
@@ -50,21 +72,43 @@ pub level_record_field_list : level script.record_field_list ≡ true
 unfolding scripts
 level_record_field_list = refl
 
-pub moves_record_field_list : (k : ℕ) → moves script.record_field_list k ≡ true
+pub moved_record_field_list : {n : ℕ} {v : Outcome} → (p q : Parser) →
+    Does n script.record_field_list v (state p) (state q) →
+    (state q).left < (state p).left
 unfolding scripts
-moves_record_field_list k = refl
+moved_record_field_list p q d = moved p q d refl
+
+pub took_record_field_list : {n : ℕ} → (p q : Parser) →
+    Does n script.record_field_list something (state p) (state q) →
+    Took (state p) (state q) list_room
+unfolding scripts
+took_record_field_list p q d = took list_room p q d refl (moved p q d refl)
 
 pub level_tuple_field : level script.tuple_field ≡ true
 unfolding scripts
 level_tuple_field = refl
 
+pub took_on_tuple_field : {n : ℕ} (on : Bool) → (p q : Parser) →
+    Does n script.tuple_field (of_bool on) (state p) (state q) →
+    on ≡ true → Took (state p) (state q) element_room
+unfolding scripts
+took_on_tuple_field on p q d e = element_took on p q d e refl refl
+
+pub grew_tuple_field : {n : ℕ} (on : Bool) → (p q : Parser) →
+    Does n script.tuple_field (of_bool on) (state p) (state q) →
+    Grew (state p) (state q) 16
+unfolding scripts
+grew_tuple_field on p q d = element_grew on p q d refl refl refl
+
 pub level_tuple_field_list : level script.tuple_field_list ≡ true
 unfolding scripts
 level_tuple_field_list = refl
 
-pub moves_tuple_field_list : (k : ℕ) → moves script.tuple_field_list k ≡ true
+pub moved_tuple_field_list : {n : ℕ} {v : Outcome} → (p q : Parser) →
+    Does n script.tuple_field_list v (state p) (state q) →
+    (state q).left < (state p).left
 unfolding scripts
-moves_tuple_field_list k = refl
+moved_tuple_field_list p q d = moved p q d refl
 
 pub level_variant_fields : level script.variant_fields ≡ true
 unfolding scripts
@@ -78,6 +122,13 @@ pub level_variant_or_block : level script.variant_or_block ≡ true
 unfolding scripts
 level_variant_or_block = refl
 
+pub inside_variant_or_block : {n : ℕ} {v : Outcome} → (p q : Parser) →
+    Does n script.variant_or_block v (state p) (state q) →
+    is_at EOF (state p).rest ≡ false → is_at R_CURLY (state p).rest ≡ false →
+    (state q).left < (state p).left
+unfolding scripts
+inside_variant_or_block p q d e f = moved_inside p q d e f refl
+
 pub level_variants : level script.variants ≡ true
 unfolding scripts
 level_variants = refl
@@ -86,13 +137,29 @@ pub level_variant_list : level script.variant_list ≡ true
 unfolding scripts
 level_variant_list = refl
 
-pub moves_variant_list : (k : ℕ) → moves script.variant_list k ≡ true
+pub moved_variant_list : {n : ℕ} {v : Outcome} → (p q : Parser) →
+    Does n script.variant_list v (state p) (state q) →
+    (state q).left < (state p).left
 unfolding scripts
-moves_variant_list k = refl
+moved_variant_list p q d = moved p q d refl
 
-pub moves_enum_ : (k : ℕ) → moves script.enum_ k ≡ true
+pub took_variant_list : {n : ℕ} → (p q : Parser) →
+    Does n script.variant_list something (state p) (state q) →
+    Took (state p) (state q) list_room
 unfolding scripts
-moves_enum_ k = refl
+took_variant_list p q d = took list_room p q d refl (moved p q d refl)
+
+pub moved_enum_ : {n : ℕ} {v : Outcome} → (p q : Parser) →
+    Does n script.enum_ v (state p) (state q) →
+    (state q).left < (state p).left
+unfolding scripts
+moved_enum_ p q d = moved p q d refl
+
+pub ended_enum_ : {n : ℕ} {m : ℕ} → (p q : Parser) →
+    Does n script.enum_ something (state p) (state q) →
+    (state p).marker ≡ Some m → Ended (state p) (state q) item_room
+unfolding scripts
+ended_enum_ p q d e = ended item_room p q d refl (moved p q d refl) e
 
 pub level_fields_behind_where : level script.fields_behind_where ≡ true
 unfolding scripts
@@ -102,9 +169,11 @@ pub level_tuple_fields : level script.tuple_fields ≡ true
 unfolding scripts
 level_tuple_fields = refl
 
-pub moves_tuple_fields : (k : ℕ) → moves script.tuple_fields k ≡ true
+pub moved_tuple_fields : {n : ℕ} {v : Outcome} → (p q : Parser) →
+    Does n script.tuple_fields v (state p) (state q) →
+    (state q).left < (state p).left
 unfolding scripts
-moves_tuple_fields k = refl
+moved_tuple_fields p q d = moved p q d refl
 
 pub level_struct_fields : level script.struct_fields ≡ true
 unfolding scripts
@@ -120,44 +189,70 @@ unfolding scripts
 level_struct_or_union true = refl
 level_struct_or_union false = refl
 
-pub moves_strukt : (k : ℕ) → moves script.strukt k ≡ true
+pub moved_strukt : {n : ℕ} {v : Outcome} → (p q : Parser) →
+    Does n script.strukt v (state p) (state q) →
+    (state q).left < (state p).left
 unfolding scripts
-moves_strukt k = refl
+moved_strukt p q d = moved p q d refl
 
-pub moves_union : (k : ℕ) → moves script.union k ≡ true
+pub ended_strukt : {n : ℕ} {m : ℕ} → (p q : Parser) →
+    Does n script.strukt something (state p) (state q) →
+    (state p).marker ≡ Some m → Ended (state p) (state q) item_room
 unfolding scripts
-moves_union k = refl
+ended_strukt p q d e = ended item_room p q d refl (moved p q d refl) e
+
+pub moved_union : {n : ℕ} {v : Outcome} → (p q : Parser) →
+    Does n script.union v (state p) (state q) →
+    (state q).left < (state p).left
+unfolding scripts
+moved_union p q d = moved p q d refl
+
+pub ended_union : {n : ℕ} {m : ℕ} → (p q : Parser) →
+    Does n script.union something (state p) (state q) →
+    (state p).marker ≡ Some m → Ended (state p) (state q) item_room
+unfolding scripts
+ended_union p q d e = ended item_room p q d refl (moved p q d refl) e
 
 -- all of them
 pub ruleset facts = (
+  kept,
   level_missing_in_list,
   level_comma_in_braces,
   level_opt_value,
   level_mut_restriction,
-  moves_mut_restriction,
+  moved_mut_restriction,
   level_opt_mut_restriction,
   level_opt_unsafe,
   level_record_field,
   level_field_or_block,
+  inside_field_or_block,
   level_record_fields,
   level_record_field_list,
-  moves_record_field_list,
+  moved_record_field_list,
+  took_record_field_list,
   level_tuple_field,
+  took_on_tuple_field,
+  grew_tuple_field,
   level_tuple_field_list,
-  moves_tuple_field_list,
+  moved_tuple_field_list,
   level_variant_fields,
   level_variant,
   level_variant_or_block,
+  inside_variant_or_block,
   level_variants,
   level_variant_list,
-  moves_variant_list,
-  moves_enum_,
+  moved_variant_list,
+  took_variant_list,
+  moved_enum_,
+  ended_enum_,
   level_fields_behind_where,
   level_tuple_fields,
-  moves_tuple_fields,
+  moved_tuple_fields,
   level_struct_fields,
   level_fields,
   level_struct_or_union,
-  moves_strukt,
-  moves_union,
+  moved_strukt,
+  ended_strukt,
+  moved_union,
+  ended_union,
 )

@@ -1,13 +1,29 @@
 -- What is computed of the scripts of Asm: the open nodes are as before, and a token is taken.
 -- Written by crates/rap_grammar_facts/facts from the scripts: an edit here is lost.
-use Rattle.std.proofs.Common.{◌≡◌, Bool, true, false, refl}
+use Rattle.std.proofs.Common.{◌≡◌, ◌<◌, ℕ, Bool, true, false, if◌then◌else◌, refl}
+use Rattle.rap_events.specs.State.{state}
+use Rattle.rap_events.specs.declared.parser.Parser.{Parser}
 use Rattle.rap_grammar_scripts.specs.Effects.{level}
+use Rattle.rap_grammar_scripts.specs.Exec.{Does}
+use Rattle.rap_grammar_scripts.specs.Script.{Outcome, something, again, loop}
+use Rattle.rap_grammar_frame.specs.Grew.{Grew}
+use Rattle.rap_grammar_facts.specs.Alone.{DoesAlone}
+use Rattle.rap_grammar_facts.proofs.Alone.{kept}
+use Rattle.rap_grammar_facts.proofs.Grown.{grown}
+use Rattle.rap_grammar_facts.proofs.Moved.{turned}
+use Rattle.rap_grammar_facts.proofs.Turning.{TurnsAlone, turned_on, turned_off}
 use Rattle.rap_grammar_scripts.proofs.Scripts.{scripts}
 use Rattle.rap_grammar_scripts.specs.Asm as script
 
 pub level_asm_template : level script.asm_template ≡ true
 unfolding scripts
 level_asm_template = refl
+
+pub grew_asm_template : {n : ℕ} {v : Outcome} → (p q : Parser) →
+    Does n script.asm_template v (state p) (state q) →
+    Grew (state p) (state q) 40
+unfolding scripts
+grew_asm_template p q d = grown 40 p q d refl
 
 pub level_reg_spec : level script.reg_spec ≡ true
 unfolding scripts
@@ -16,6 +32,24 @@ level_reg_spec = refl
 pub level_parse_reg : level script.parse_reg ≡ true
 unfolding scripts
 level_parse_reg = refl
+
+pub turned_clobber_turn : (on : Bool) (a : Bool) (b : Bool) → (p q : Parser) →
+    DoesAlone (script.clobber_turn a b) (if on then again false false else something) (state p) (state q) →
+    on ≡ true → (state q).left < (state p).left
+unfolding scripts
+turned_clobber_turn on a b p q d e = let x = d.at 0 in turned on p q x e refl
+
+pub again_clobber_turn : (on : Bool) (o p q : Parser) → TurnsAlone script.clobber_turn o p →
+    DoesAlone (script.clobber_turn false false) (if on then again false false else something) (state p) (state q) →
+    on ≡ true → TurnsAlone script.clobber_turn o q
+unfolding scripts
+again_clobber_turn on o p q t d e = turned_on on o p q t d e refl
+
+pub last_clobber_turn : (on : Bool) (o p q : Parser) → TurnsAlone script.clobber_turn o p →
+    DoesAlone (script.clobber_turn false false) (if on then again false false else something) (state p) (state q) →
+    on ≡ false → DoesAlone (loop script.clobber_turn false false) something (state o) (state q)
+unfolding scripts
+last_clobber_turn on o p q t d e = turned_off on o p q t d e
 
 pub level_clobber_abis : level script.clobber_abis ≡ true
 unfolding scripts
@@ -32,6 +66,24 @@ level_flow_option = refl
 pub level_option_name : level script.option_name ≡ true
 unfolding scripts
 level_option_name = refl
+
+pub turned_options_turn : (on : Bool) (a : Bool) (b : Bool) → (p q : Parser) →
+    DoesAlone (script.options_turn a b) (if on then again false false else something) (state p) (state q) →
+    on ≡ true → (state q).left < (state p).left
+unfolding scripts
+turned_options_turn on a b p q d e = let x = d.at 0 in turned on p q x e refl
+
+pub again_options_turn : (on : Bool) (o p q : Parser) → TurnsAlone script.options_turn o p →
+    DoesAlone (script.options_turn false false) (if on then again false false else something) (state p) (state q) →
+    on ≡ true → TurnsAlone script.options_turn o q
+unfolding scripts
+again_options_turn on o p q t d e = turned_on on o p q t d e refl
+
+pub last_options_turn : (on : Bool) (o p q : Parser) → TurnsAlone script.options_turn o p →
+    DoesAlone (script.options_turn false false) (if on then again false false else something) (state p) (state q) →
+    on ≡ false → DoesAlone (loop script.options_turn false false) something (state o) (state q)
+unfolding scripts
+last_options_turn on o p q t d e = turned_off on o p q t d e
 
 pub level_asm_options : level script.asm_options ≡ true
 unfolding scripts
@@ -80,15 +132,29 @@ pub level_asm_pieces : level script.asm_pieces ≡ true
 unfolding scripts
 level_asm_pieces = refl
 
+pub grew_asm_pieces : {n : ℕ} {v : Outcome} → (p q : Parser) →
+    Does n script.asm_pieces v (state p) (state q) →
+    Grew (state p) (state q) 40
+unfolding scripts
+grew_asm_pieces p q d = grown 40 p q d refl
+
 -- all of them
 pub ruleset facts = (
+  kept,
   level_asm_template,
+  grew_asm_template,
   level_reg_spec,
   level_parse_reg,
+  turned_clobber_turn,
+  again_clobber_turn,
+  last_clobber_turn,
   level_clobber_abis,
   level_parse_clobber_abi,
   level_flow_option,
   level_option_name,
+  turned_options_turn,
+  again_options_turn,
+  last_options_turn,
   level_asm_options,
   level_parse_options,
   level_operand_name,
@@ -100,4 +166,5 @@ pub ruleset facts = (
   level_no_operand,
   level_asm_piece,
   level_asm_pieces,
+  grew_asm_pieces,
 )

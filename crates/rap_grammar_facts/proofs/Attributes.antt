@@ -1,8 +1,14 @@
 -- What is computed of the scripts of Attributes: the open nodes are as before, and a token is taken.
 -- Written by crates/rap_grammar_facts/facts from the scripts: an edit here is lost.
-use Rattle.std.proofs.Common.{◌≡◌, ℕ, Bool, true, false, refl}
+use Rattle.std.proofs.Common.{◌≡◌, ◌<◌, ℕ, Bool, true, false, refl}
+use Rattle.rap_events.specs.State.{state}
+use Rattle.rap_events.specs.declared.parser.Parser.{Parser}
 use Rattle.rap_grammar_scripts.specs.Effects.{level}
-use Rattle.rap_grammar_scripts.specs.Moves.{moves}
+use Rattle.rap_grammar_scripts.specs.Exec.{Does}
+use Rattle.rap_grammar_scripts.specs.Script.{Outcome}
+use Rattle.rap_grammar_frame.proofs.Done.{moved}
+use Rattle.rap_grammar_facts.specs.Alone.{DoesAlone}
+use Rattle.rap_grammar_facts.proofs.Alone.{kept}
 use Rattle.rap_grammar_scripts.proofs.Scripts.{scripts}
 use Rattle.rap_grammar_scripts.specs.Attributes as script
 
@@ -18,9 +24,11 @@ pub level_cfg_meta : level script.cfg_meta ≡ true
 unfolding scripts
 level_cfg_meta = refl
 
-pub moves_cfg_meta : (k : ℕ) → moves script.cfg_meta k ≡ true
+pub moved_cfg_meta : {n : ℕ} {v : Outcome} → (p q : Parser) →
+    Does n script.cfg_meta v (state p) (state q) →
+    (state q).left < (state p).left
 unfolding scripts
-moves_cfg_meta k = refl
+moved_cfg_meta p q d = moved p q d refl
 
 pub level_cfg_attr_metas : level script.cfg_attr_metas ≡ true
 unfolding scripts
@@ -30,25 +38,31 @@ pub level_cfg_attr_meta : level script.cfg_attr_meta ≡ true
 unfolding scripts
 level_cfg_attr_meta = refl
 
-pub moves_cfg_attr_meta : (k : ℕ) → moves script.cfg_attr_meta k ≡ true
+pub moved_cfg_attr_meta : {n : ℕ} {v : Outcome} → (p q : Parser) →
+    Does n script.cfg_attr_meta v (state p) (state q) →
+    (state q).left < (state p).left
 unfolding scripts
-moves_cfg_attr_meta k = refl
+moved_cfg_attr_meta p q d = moved p q d refl
 
 pub level_unsafe_meta : level script.unsafe_meta ≡ true
 unfolding scripts
 level_unsafe_meta = refl
 
-pub moves_unsafe_meta : (k : ℕ) → moves script.unsafe_meta k ≡ true
+pub moved_unsafe_meta : {n : ℕ} {v : Outcome} → (p q : Parser) →
+    Does n script.unsafe_meta v (state p) (state q) →
+    (state q).left < (state p).left
 unfolding scripts
-moves_unsafe_meta k = refl
+moved_unsafe_meta p q d = moved p q d refl
 
 pub level_attr_value : level script.attr_value ≡ true
 unfolding scripts
 level_attr_value = refl
 
-pub moves_attr_value : (k : ℕ) → moves script.attr_value k ≡ true
+pub moved_attr_value : {n : ℕ} {v : Outcome} → (p q : Parser) →
+    Does n script.attr_value v (state p) (state q) →
+    (state q).left < (state p).left
 unfolding scripts
-moves_attr_value k = refl
+moved_attr_value p q d = moved p q d refl
 
 pub level_path_meta : level script.path_meta ≡ true
 unfolding scripts
@@ -63,10 +77,12 @@ unfolding scripts
 level_attr_mark true = refl
 level_attr_mark false = refl
 
-pub moves_attr_mark : (a : Bool) → (k : ℕ) → moves (script.attr_mark a) k ≡ true
+pub moved_attr_mark : {v : Outcome} (a : Bool) → (p q : Parser) →
+    DoesAlone (script.attr_mark a) v (state p) (state q) →
+    (state q).left < (state p).left
 unfolding scripts
-moves_attr_mark true k = refl
-moves_attr_mark false k = refl
+moved_attr_mark true p q d = let x = d.at 0 in moved p q x refl
+moved_attr_mark false p q d = let x = d.at 0 in moved p q x refl
 
 pub level_attr_brackets : level script.attr_brackets ≡ true
 unfolding scripts
@@ -87,21 +103,22 @@ level_inner_attrs = refl
 
 -- all of them
 pub ruleset facts = (
+  kept,
   level_cfg_value,
   level_cfg_predicate,
   level_cfg_meta,
-  moves_cfg_meta,
+  moved_cfg_meta,
   level_cfg_attr_metas,
   level_cfg_attr_meta,
-  moves_cfg_attr_meta,
+  moved_cfg_attr_meta,
   level_unsafe_meta,
-  moves_unsafe_meta,
+  moved_unsafe_meta,
   level_attr_value,
-  moves_attr_value,
+  moved_attr_value,
   level_path_meta,
   level_meta,
   level_attr_mark,
-  moves_attr_mark,
+  moved_attr_mark,
   level_attr_brackets,
   level_attr,
   level_outer_attrs,

@@ -1,11 +1,15 @@
 -- What is computed of the scripts of Blocks: the open nodes are as before, and a token is taken.
 -- Written by crates/rap_grammar_facts/facts from the scripts: an edit here is lost.
-use Rattle.std.proofs.Common.{◌≡◌, ℕ, true, List, refl}
+use Rattle.std.proofs.Common.{◌≡◌, ◌<◌, ℕ, true, List, refl}
+use Rattle.rap_events.specs.State.{state}
+use Rattle.rap_events.specs.declared.parser.Parser.{Parser}
 use Rattle.rap_grammar_scripts.specs.Effects.{level}
-use Rattle.rap_grammar_scripts.specs.Moves.{moves}
+use Rattle.rap_grammar_scripts.specs.Exec.{Does}
 use Rattle.rap_grammar_scripts.specs.Script.{Outcome, nothing, something, block, again}
 use Rattle.rap_grammar_scripts.specs.declared.arguments.Semicolon.{Semicolon}
 use Rattle.rap_grammar_scripts.specs.declared.arguments.Semicolon.TheVariants as semicolon
+use Rattle.rap_grammar_frame.proofs.Done.{moved}
+use Rattle.rap_grammar_facts.proofs.Alone.{kept}
 use Rattle.rap_grammar_scripts.proofs.Scripts.{scripts}
 use Rattle.rap_grammar_scripts.specs.Blocks as script
 
@@ -21,9 +25,11 @@ pub level_stmt_list : level script.stmt_list ≡ true
 unfolding scripts
 level_stmt_list = refl
 
-pub moves_stmt_list : (k : ℕ) → moves script.stmt_list k ≡ true
+pub moved_stmt_list : {n : ℕ} {v : Outcome} → (p q : Parser) →
+    Does n script.stmt_list v (state p) (state q) →
+    (state q).left < (state p).left
 unfolding scripts
-moves_stmt_list k = refl
+moved_stmt_list p q d = moved p q d refl
 
 pub level_block_expr : level script.block_expr ≡ true
 unfolding scripts
@@ -33,9 +39,11 @@ pub level_error_block : (a : List ℕ) → level (script.error_block a) ≡ true
 unfolding scripts
 level_error_block a = refl
 
-pub moves_error_block : (a : List ℕ) → (k : ℕ) → moves (script.error_block a) k ≡ true
+pub moved_error_block : {n : ℕ} {v : Outcome} (a : List ℕ) → (p q : Parser) →
+    Does n (script.error_block a) v (state p) (state q) →
+    (state q).left < (state p).left
 unfolding scripts
-moves_error_block a k = refl
+moved_error_block a p q d = moved p q d refl
 
 pub level_let_type : level script.let_type ≡ true
 unfolding scripts
@@ -56,9 +64,11 @@ pub level_else_block : level script.else_block ≡ true
 unfolding scripts
 level_else_block = refl
 
-pub moves_else_block : (k : ℕ) → moves script.else_block k ≡ true
+pub moved_else_block : {n : ℕ} {v : Outcome} → (p q : Parser) →
+    Does n script.else_block v (state p) (state q) →
+    (state q).left < (state p).left
 unfolding scripts
-moves_else_block k = refl
+moved_else_block p q d = moved p q d refl
 
 pub level_let_else : (a : Outcome) → level (script.let_else a) ≡ true
 unfolding scripts
@@ -85,18 +95,19 @@ level_error_let_stmt a = refl
 
 -- all of them
 pub ruleset facts = (
+  kept,
   level_statements,
   level_expr_block_contents,
   level_stmt_list,
-  moves_stmt_list,
+  moved_stmt_list,
   level_block_expr,
   level_error_block,
-  moves_error_block,
+  moved_error_block,
   level_let_type,
   level_let_value,
   level_value_before_else,
   level_else_block,
-  moves_else_block,
+  moved_else_block,
   level_let_else,
   level_let_end,
   level_let_stmt,

@@ -2,6 +2,7 @@
 -- Written by crates/rap_grammar_facts/facts from the scripts: an edit here is lost.
 use Rattle.std.proofs.Common.{◌≡◌, true, refl}
 use Rattle.rap_grammar_scripts.specs.Effects.{level}
+use Rattle.rap_grammar_facts.proofs.Alone.{kept}
 use Rattle.rap_grammar_scripts.proofs.Scripts.{scripts}
 use Rattle.rap_grammar_scripts.specs.Closures as script
 
@@ -27,6 +28,7 @@ level_closure_expr = refl
 
 -- all of them
 pub ruleset facts = (
+  kept,
   level_closure_binder,
   level_closure_keywords,
   level_closing_angles,

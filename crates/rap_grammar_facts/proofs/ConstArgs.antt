@@ -1,8 +1,13 @@
 -- What is computed of the scripts of ConstArgs: the open nodes are as before, and a token is taken.
 -- Written by crates/rap_grammar_facts/facts from the scripts: an edit here is lost.
-use Rattle.std.proofs.Common.{◌≡◌, ℕ, true, refl}
+use Rattle.std.proofs.Common.{◌≡◌, ◌<◌, true, refl}
+use Rattle.rap_events.specs.State.{state}
+use Rattle.rap_events.specs.declared.parser.Parser.{Parser}
 use Rattle.rap_grammar_scripts.specs.Effects.{level}
-use Rattle.rap_grammar_scripts.specs.Moves.{moves}
+use Rattle.rap_grammar_scripts.specs.Script.{Outcome}
+use Rattle.rap_grammar_frame.proofs.Done.{moved}
+use Rattle.rap_grammar_facts.specs.Alone.{DoesAlone}
+use Rattle.rap_grammar_facts.proofs.Alone.{kept}
 use Rattle.rap_grammar_scripts.proofs.Scripts.{scripts}
 use Rattle.rap_grammar_scripts.specs.ConstArgs as script
 
@@ -10,9 +15,11 @@ pub level_negative_const : level script.negative_const ≡ true
 unfolding scripts
 level_negative_const = refl
 
-pub moves_negative_const : (k : ℕ) → moves script.negative_const k ≡ true
+pub moved_negative_const : {v : Outcome} → (p q : Parser) →
+    DoesAlone script.negative_const v (state p) (state q) →
+    (state q).left < (state p).left
 unfolding scripts
-moves_negative_const k = refl
+moved_negative_const p q d = let x = d.at 0 in moved p q x refl
 
 pub level_const_path : level script.const_path ≡ true
 unfolding scripts
@@ -32,8 +39,9 @@ level_const_arg = refl
 
 -- all of them
 pub ruleset facts = (
+  kept,
   level_negative_const,
-  moves_negative_const,
+  moved_negative_const,
   level_const_path,
   level_missing_const,
   level_const_arg_expr,

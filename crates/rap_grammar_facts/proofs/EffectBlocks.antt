@@ -1,8 +1,14 @@
 -- What is computed of the scripts of EffectBlocks: the open nodes are as before, and a token is taken.
 -- Written by crates/rap_grammar_facts/facts from the scripts: an edit here is lost.
-use Rattle.std.proofs.Common.{◌≡◌, ℕ, true, refl}
+use Rattle.std.proofs.Common.{◌≡◌, ◌<◌, ℕ, true, refl}
+use Rattle.rap_events.specs.State.{state}
+use Rattle.rap_events.specs.declared.parser.Parser.{Parser}
 use Rattle.rap_grammar_scripts.specs.Effects.{level}
-use Rattle.rap_grammar_scripts.specs.Moves.{moves}
+use Rattle.rap_grammar_scripts.specs.Exec.{Does}
+use Rattle.rap_grammar_scripts.specs.Script.{Outcome}
+use Rattle.rap_grammar_frame.proofs.Done.{moved}
+use Rattle.rap_grammar_facts.specs.Alone.{DoesAlone}
+use Rattle.rap_grammar_facts.proofs.Alone.{kept}
 use Rattle.rap_grammar_scripts.proofs.Scripts.{scripts}
 use Rattle.rap_grammar_scripts.specs.EffectBlocks as script
 
@@ -10,41 +16,51 @@ pub level_plain_block : level script.plain_block ≡ true
 unfolding scripts
 level_plain_block = refl
 
-pub moves_plain_block : (k : ℕ) → moves script.plain_block k ≡ true
+pub moved_plain_block : {n : ℕ} {v : Outcome} → (p q : Parser) →
+    Does n script.plain_block v (state p) (state q) →
+    (state q).left < (state p).left
 unfolding scripts
-moves_plain_block k = refl
+moved_plain_block p q d = moved p q d refl
 
 pub level_try_modifier : level script.try_modifier ≡ true
 unfolding scripts
 level_try_modifier = refl
 
-pub moves_try_modifier : (k : ℕ) → moves script.try_modifier k ≡ true
+pub moved_try_modifier : {n : ℕ} {v : Outcome} → (p q : Parser) →
+    Does n script.try_modifier v (state p) (state q) →
+    (state q).left < (state p).left
 unfolding scripts
-moves_try_modifier k = refl
+moved_try_modifier p q d = moved p q d refl
 
 pub level_try_block_expr : level script.try_block_expr ≡ true
 unfolding scripts
 level_try_block_expr = refl
 
-pub moves_try_block_expr : (k : ℕ) → moves script.try_block_expr k ≡ true
+pub moved_try_block_expr : {n : ℕ} {v : Outcome} → (p q : Parser) →
+    Does n script.try_block_expr v (state p) (state q) →
+    (state q).left < (state p).left
 unfolding scripts
-moves_try_block_expr k = refl
+moved_try_block_expr p q d = moved p q d refl
 
 pub level_effects : level script.effects ≡ true
 unfolding scripts
 level_effects = refl
 
-pub moves_effects : (k : ℕ) → moves script.effects k ≡ true
+pub moved_effects : {v : Outcome} → (p q : Parser) →
+    DoesAlone script.effects v (state p) (state q) →
+    (state q).left < (state p).left
 unfolding scripts
-moves_effects k = refl
+moved_effects p q d = let x = d.at 0 in moved p q x refl
 
 pub level_effect_block : level script.effect_block ≡ true
 unfolding scripts
 level_effect_block = refl
 
-pub moves_effect_block : (k : ℕ) → moves script.effect_block k ≡ true
+pub moved_effect_block : {n : ℕ} {v : Outcome} → (p q : Parser) →
+    Does n script.effect_block v (state p) (state q) →
+    (state q).left < (state p).left
 unfolding scripts
-moves_effect_block k = refl
+moved_effect_block p q d = moved p q d refl
 
 pub level_effect_expr : level script.effect_expr ≡ true
 unfolding scripts
@@ -52,15 +68,16 @@ level_effect_expr = refl
 
 -- all of them
 pub ruleset facts = (
+  kept,
   level_plain_block,
-  moves_plain_block,
+  moved_plain_block,
   level_try_modifier,
-  moves_try_modifier,
+  moved_try_modifier,
   level_try_block_expr,
-  moves_try_block_expr,
+  moved_try_block_expr,
   level_effects,
-  moves_effects,
+  moved_effects,
   level_effect_block,
-  moves_effect_block,
+  moved_effect_block,
   level_effect_expr,
 )

@@ -2,6 +2,7 @@
 -- Written by crates/rap_grammar_facts/facts from the scripts: an edit here is lost.
 use Rattle.std.proofs.Common.{◌≡◌, true, refl}
 use Rattle.rap_grammar_scripts.specs.Effects.{level}
+use Rattle.rap_grammar_facts.proofs.Alone.{kept}
 use Rattle.rap_grammar_scripts.proofs.Scripts.{scripts}
 use Rattle.rap_grammar_scripts.specs.Entry as script
 
@@ -14,4 +15,4 @@ unfolding scripts
 level_macro_stmts = refl
 
 -- all of them
-pub ruleset facts = (level_source_file, level_macro_stmts)
+pub ruleset facts = (kept, level_source_file, level_macro_stmts)

@@ -1,8 +1,14 @@
 -- What is computed of the scripts of GenericArgs: the open nodes are as before, and a token is taken.
 -- Written by crates/rap_grammar_facts/facts from the scripts: an edit here is lost.
-use Rattle.std.proofs.Common.{◌≡◌, ℕ, true, refl}
+use Rattle.std.proofs.Common.{◌≡◌, ◌<◌, ℕ, true, refl}
+use Rattle.rap_events.specs.State.{state}
+use Rattle.rap_events.specs.declared.parser.Parser.{Parser}
 use Rattle.rap_grammar_scripts.specs.Effects.{level}
-use Rattle.rap_grammar_scripts.specs.Moves.{moves}
+use Rattle.rap_grammar_scripts.specs.Exec.{Does}
+use Rattle.rap_grammar_scripts.specs.Script.{Outcome}
+use Rattle.rap_grammar_frame.proofs.Done.{moved}
+use Rattle.rap_grammar_facts.specs.Alone.{DoesAlone}
+use Rattle.rap_grammar_facts.proofs.Alone.{kept}
 use Rattle.rap_grammar_scripts.proofs.Scripts.{scripts}
 use Rattle.rap_grammar_scripts.specs.GenericArgs as script
 
@@ -10,9 +16,11 @@ pub level_lifetime_arg : level script.lifetime_arg ≡ true
 unfolding scripts
 level_lifetime_arg = refl
 
-pub moves_lifetime_arg : (k : ℕ) → moves script.lifetime_arg k ≡ true
+pub moved_lifetime_arg : {v : Outcome} → (p q : Parser) →
+    DoesAlone script.lifetime_arg v (state p) (state q) →
+    (state q).left < (state p).left
 unfolding scripts
-moves_lifetime_arg k = refl
+moved_lifetime_arg p q d = let x = d.at 0 in moved p q x refl
 
 pub level_type_arg : level script.type_arg ≡ true
 unfolding scripts
@@ -22,9 +30,11 @@ pub level_assoc_value : level script.assoc_value ≡ true
 unfolding scripts
 level_assoc_value = refl
 
-pub moves_macro_arg : (k : ℕ) → moves script.macro_arg k ≡ true
+pub moved_macro_arg : {n : ℕ} {v : Outcome} → (p q : Parser) →
+    Does n script.macro_arg v (state p) (state q) →
+    (state q).left < (state p).left
 unfolding scripts
-moves_macro_arg k = refl
+moved_macro_arg p q d = moved p q d refl
 
 pub level_path_arg : level script.path_arg ≡ true
 unfolding scripts
@@ -40,11 +50,12 @@ level_generic_arg = refl
 
 -- all of them
 pub ruleset facts = (
+  kept,
   level_lifetime_arg,
-  moves_lifetime_arg,
+  moved_lifetime_arg,
   level_type_arg,
   level_assoc_value,
-  moves_macro_arg,
+  moved_macro_arg,
   level_path_arg,
   level_named_arg,
   level_generic_arg,

@@ -1,8 +1,14 @@
 -- What is computed of the scripts of GenericParams: the open nodes are as before, and a token is taken.
 -- Written by crates/rap_grammar_facts/facts from the scripts: an edit here is lost.
-use Rattle.std.proofs.Common.{◌≡◌, ℕ, true, refl}
+use Rattle.std.proofs.Common.{◌≡◌, ◌<◌, ℕ, true, refl}
+use Rattle.rap_events.specs.State.{state}
+use Rattle.rap_events.specs.declared.parser.Parser.{Parser}
 use Rattle.rap_grammar_scripts.specs.Effects.{level}
-use Rattle.rap_grammar_scripts.specs.Moves.{moves}
+use Rattle.rap_grammar_scripts.specs.Exec.{Does}
+use Rattle.rap_grammar_scripts.specs.Script.{Outcome}
+use Rattle.rap_grammar_frame.proofs.Done.{moved}
+use Rattle.rap_grammar_facts.specs.Alone.{DoesAlone}
+use Rattle.rap_grammar_facts.proofs.Alone.{kept}
 use Rattle.rap_grammar_scripts.proofs.Scripts.{scripts}
 use Rattle.rap_grammar_scripts.specs.GenericParams as script
 
@@ -14,17 +20,21 @@ pub level_use_bound_args : level script.use_bound_args ≡ true
 unfolding scripts
 level_use_bound_args = refl
 
-pub moves_use_bound_args : (k : ℕ) → moves script.use_bound_args k ≡ true
+pub moved_use_bound_args : {v : Outcome} → (p q : Parser) →
+    DoesAlone script.use_bound_args v (state p) (state q) →
+    (state q).left < (state p).left
 unfolding scripts
-moves_use_bound_args k = refl
+moved_use_bound_args p q d = let x = d.at 0 in moved p q x refl
 
 pub level_use_bound : level script.use_bound ≡ true
 unfolding scripts
 level_use_bound = refl
 
-pub moves_use_bound : (k : ℕ) → moves script.use_bound k ≡ true
+pub moved_use_bound : {v : Outcome} → (p q : Parser) →
+    DoesAlone script.use_bound v (state p) (state q) →
+    (state q).left < (state p).left
 unfolding scripts
-moves_use_bound k = refl
+moved_use_bound p q d = let x = d.at 0 in moved p q x refl
 
 pub level_bound_constness : level script.bound_constness ≡ true
 unfolding scripts
@@ -34,9 +44,11 @@ pub level_bound_macro_call : level script.bound_macro_call ≡ true
 unfolding scripts
 level_bound_macro_call = refl
 
-pub moves_bound_macro_call : (k : ℕ) → moves script.bound_macro_call k ≡ true
+pub moved_bound_macro_call : {n : ℕ} {v : Outcome} → (p q : Parser) →
+    Does n script.bound_macro_call v (state p) (state q) →
+    (state q).left < (state p).left
 unfolding scripts
-moves_bound_macro_call k = refl
+moved_bound_macro_call p q d = moved p q d refl
 
 pub level_path_type_bound : level script.path_type_bound ≡ true
 unfolding scripts
@@ -62,9 +74,11 @@ pub level_bounds : level script.bounds ≡ true
 unfolding scripts
 level_bounds = refl
 
-pub moves_bounds : (k : ℕ) → moves script.bounds k ≡ true
+pub moved_bounds : {n : ℕ} {v : Outcome} → (p q : Parser) →
+    Does n script.bounds v (state p) (state q) →
+    (state q).left < (state p).left
 unfolding scripts
-moves_bounds k = refl
+moved_bounds p q d = moved p q d refl
 
 pub level_lifetime_bound : level script.lifetime_bound ≡ true
 unfolding scripts
@@ -78,9 +92,11 @@ pub level_lifetime_bounds : level script.lifetime_bounds ≡ true
 unfolding scripts
 level_lifetime_bounds = refl
 
-pub moves_lifetime_param : (k : ℕ) → moves script.lifetime_param k ≡ true
+pub moved_lifetime_param : {n : ℕ} {v : Outcome} → (p q : Parser) →
+    Does n script.lifetime_param v (state p) (state q) →
+    (state q).left < (state p).left
 unfolding scripts
-moves_lifetime_param k = refl
+moved_lifetime_param p q d = moved p q d refl
 
 pub level_type_default : level script.type_default ≡ true
 unfolding scripts
@@ -94,9 +110,11 @@ pub level_const_default : level script.const_default ≡ true
 unfolding scripts
 level_const_default = refl
 
-pub moves_const_param : (k : ℕ) → moves script.const_param k ≡ true
+pub moved_const_param : {n : ℕ} {v : Outcome} → (p q : Parser) →
+    Does n script.const_param v (state p) (state q) →
+    (state q).left < (state p).left
 unfolding scripts
-moves_const_param k = refl
+moved_const_param p q d = moved p q d refl
 
 pub level_attributed_param : level script.attributed_param ≡ true
 unfolding scripts
@@ -106,17 +124,21 @@ pub level_generic_params : level script.generic_params ≡ true
 unfolding scripts
 level_generic_params = refl
 
-pub moves_generic_params : (k : ℕ) → moves script.generic_params k ≡ true
+pub moved_generic_params : {n : ℕ} {v : Outcome} → (p q : Parser) →
+    Does n script.generic_params v (state p) (state q) →
+    (state q).left < (state p).left
 unfolding scripts
-moves_generic_params k = refl
+moved_generic_params p q d = moved p q d refl
 
 pub level_generic_param_list : level script.generic_param_list ≡ true
 unfolding scripts
 level_generic_param_list = refl
 
-pub moves_generic_param_list : (k : ℕ) → moves script.generic_param_list k ≡ true
+pub moved_generic_param_list : {n : ℕ} {v : Outcome} → (p q : Parser) →
+    Does n script.generic_param_list v (state p) (state q) →
+    (state q).left < (state p).left
 unfolding scripts
-moves_generic_param_list k = refl
+moved_generic_param_list p q d = moved p q d refl
 
 pub level_predicate_bounds : level script.predicate_bounds ≡ true
 unfolding scripts
@@ -142,45 +164,48 @@ pub level_where_clause : level script.where_clause ≡ true
 unfolding scripts
 level_where_clause = refl
 
-pub moves_where_clause : (k : ℕ) → moves script.where_clause k ≡ true
+pub moved_where_clause : {n : ℕ} {v : Outcome} → (p q : Parser) →
+    Does n script.where_clause v (state p) (state q) →
+    (state q).left < (state p).left
 unfolding scripts
-moves_where_clause k = refl
+moved_where_clause p q d = moved p q d refl
 
 -- all of them
 pub ruleset facts = (
+  kept,
   level_use_bound_arg,
   level_use_bound_args,
-  moves_use_bound_args,
+  moved_use_bound_args,
   level_use_bound,
-  moves_use_bound,
+  moved_use_bound,
   level_bound_constness,
   level_bound_macro_call,
-  moves_bound_macro_call,
+  moved_bound_macro_call,
   level_path_type_bound,
   level_bare_bound,
   level_type_bound,
   level_type_bounds,
   level_bounds_without_colon,
   level_bounds,
-  moves_bounds,
+  moved_bounds,
   level_lifetime_bound,
   level_lifetime_bound_list,
   level_lifetime_bounds,
-  moves_lifetime_param,
+  moved_lifetime_param,
   level_type_default,
   level_const_type,
   level_const_default,
-  moves_const_param,
+  moved_const_param,
   level_attributed_param,
   level_generic_params,
-  moves_generic_params,
+  moved_generic_params,
   level_generic_param_list,
-  moves_generic_param_list,
+  moved_generic_param_list,
   level_predicate_bounds,
   level_type_predicate,
   level_where_predicate,
   level_after_predicate,
   level_where_predicates,
   level_where_clause,
-  moves_where_clause,
+  moved_where_clause,
 )

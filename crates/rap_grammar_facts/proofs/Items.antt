@@ -1,14 +1,22 @@
 -- What is computed of the scripts of Items: the open nodes are as before, and a token is taken.
 -- Written by crates/rap_grammar_facts/facts from the scripts: an edit here is lost.
-use Rattle.std.proofs.Common.{◌≡◌, ℕ, Bool, true, false, refl}
+use Rattle.std.proofs.Common.{◌≡◌, ◌<◌, ℕ, Bool, true, false, refl}
+use Rattle.rap_events.specs.State.{state}
+use Rattle.rap_events.specs.declared.parser.Parser.{Parser}
 use Rattle.rap_grammar_scripts.specs.Effects.{level}
-use Rattle.rap_grammar_scripts.specs.Moves.{moves}
+use Rattle.rap_grammar_scripts.specs.Exec.{Does}
+use Rattle.rap_grammar_scripts.specs.Script.{Outcome}
+use Rattle.rap_grammar_frame.proofs.Done.{moved}
+use Rattle.rap_grammar_facts.specs.Alone.{DoesAlone}
+use Rattle.rap_grammar_facts.proofs.Alone.{kept}
 use Rattle.rap_grammar_scripts.proofs.Scripts.{scripts}
 use Rattle.rap_grammar_scripts.specs.Items as script
 
-pub moves_global_asm : (k : ℕ) → moves script.global_asm k ≡ true
+pub moved_global_asm : {n : ℕ} {v : Outcome} → (p q : Parser) →
+    Does n script.global_asm v (state p) (state q) →
+    (state q).left < (state p).left
 unfolding scripts
-moves_global_asm k = refl
+moved_global_asm p q d = moved p q d refl
 
 pub level_after_item : level script.after_item ≡ true
 unfolding scripts
@@ -18,9 +26,11 @@ pub level_unmatched_brace : level script.unmatched_brace ≡ true
 unfolding scripts
 level_unmatched_brace = refl
 
-pub moves_unmatched_brace : (k : ℕ) → moves script.unmatched_brace k ≡ true
+pub moved_unmatched_brace : {v : Outcome} → (p q : Parser) →
+    DoesAlone script.unmatched_brace v (state p) (state q) →
+    (state q).left < (state p).left
 unfolding scripts
-moves_unmatched_brace k = refl
+moved_unmatched_brace p q d = let x = d.at 0 in moved p q x refl
 
 pub level_missing_item : (a : Bool) → level (script.missing_item a) ≡ true
 unfolding scripts
@@ -29,9 +39,10 @@ level_missing_item false = refl
 
 -- all of them
 pub ruleset facts = (
-  moves_global_asm,
+  kept,
+  moved_global_asm,
   level_after_item,
   level_unmatched_brace,
-  moves_unmatched_brace,
+  moved_unmatched_brace,
   level_missing_item,
 )

@@ -15,6 +15,7 @@ pub mod Functions
 pub mod GenericArgList
 pub mod GenericArgs
 pub mod GenericParams
+pub mod Grown
 pub mod Items
 pub mod Jumps
 pub mod Literals
@@ -22,6 +23,7 @@ pub mod Macros
 pub mod Matches
 pub mod Modifiers
 pub mod Modules
+pub mod Moved
 pub mod Names
 pub mod Operators
 pub mod Params
@@ -34,6 +36,7 @@ pub mod Statements
 pub mod ThroughKnot
 pub mod TokenTree
 pub mod Traits
+pub mod Turning
 pub mod Types
 pub mod UseItem
 pub mod Visibility

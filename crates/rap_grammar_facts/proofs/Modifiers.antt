@@ -1,8 +1,13 @@
 -- What is computed of the scripts of Modifiers: the open nodes are as before, and a token is taken.
 -- Written by crates/rap_grammar_facts/facts from the scripts: an edit here is lost.
-use Rattle.std.proofs.Common.{◌≡◌, ℕ, Bool, true, false, refl}
+use Rattle.std.proofs.Common.{◌≡◌, ◌<◌, ℕ, Bool, true, false, refl}
+use Rattle.rap_events.specs.State.{state}
+use Rattle.rap_events.specs.declared.parser.Parser.{Parser}
 use Rattle.rap_grammar_scripts.specs.Effects.{level}
-use Rattle.rap_grammar_scripts.specs.Moves.{moves}
+use Rattle.rap_grammar_scripts.specs.Exec.{Does}
+use Rattle.rap_grammar_scripts.specs.Script.{Outcome}
+use Rattle.rap_grammar_frame.proofs.Done.{moved}
+use Rattle.rap_grammar_facts.proofs.Alone.{kept}
 use Rattle.rap_grammar_scripts.proofs.Scripts.{scripts}
 use Rattle.rap_grammar_scripts.specs.Modifiers as script
 
@@ -10,9 +15,11 @@ pub level_impl_restriction : level script.impl_restriction ≡ true
 unfolding scripts
 level_impl_restriction = refl
 
-pub moves_impl_restriction : (k : ℕ) → moves script.impl_restriction k ≡ true
+pub moved_impl_restriction : {n : ℕ} {v : Outcome} → (p q : Parser) →
+    Does n script.impl_restriction v (state p) (state q) →
+    (state q).left < (state p).left
 unfolding scripts
-moves_impl_restriction k = refl
+moved_impl_restriction p q d = moved p q d refl
 
 pub level_opt_impl_restriction : level script.opt_impl_restriction ≡ true
 unfolding scripts
@@ -46,8 +53,9 @@ level_modifiers false = refl
 
 -- all of them
 pub ruleset facts = (
+  kept,
   level_impl_restriction,
-  moves_impl_restriction,
+  moved_impl_restriction,
   level_opt_impl_restriction,
   level_qualifiers,
   level_safety,

@@ -1,8 +1,13 @@
 -- What is computed of the scripts of Names: the open nodes are as before, and a token is taken.
 -- Written by crates/rap_grammar_facts/facts from the scripts: an edit here is lost.
-use Rattle.std.proofs.Common.{◌≡◌, ℕ, true, refl}
+use Rattle.std.proofs.Common.{◌≡◌, ◌<◌, true, refl}
+use Rattle.rap_events.specs.State.{state}
+use Rattle.rap_events.specs.declared.parser.Parser.{Parser}
 use Rattle.rap_grammar_scripts.specs.Effects.{level}
-use Rattle.rap_grammar_scripts.specs.Moves.{moves}
+use Rattle.rap_grammar_scripts.specs.Script.{Outcome}
+use Rattle.rap_grammar_frame.proofs.Done.{moved}
+use Rattle.rap_grammar_facts.specs.Alone.{DoesAlone}
+use Rattle.rap_grammar_facts.proofs.Alone.{kept}
 use Rattle.rap_grammar_scripts.proofs.Scripts.{scripts}
 use Rattle.rap_grammar_scripts.specs.Names as script
 
@@ -18,9 +23,11 @@ pub level_lifetime : level script.lifetime ≡ true
 unfolding scripts
 level_lifetime = refl
 
-pub moves_lifetime : (k : ℕ) → moves script.lifetime k ≡ true
+pub moved_lifetime : {v : Outcome} → (p q : Parser) →
+    DoesAlone script.lifetime v (state p) (state q) →
+    (state q).left < (state p).left
 unfolding scripts
-moves_lifetime k = refl
+moved_lifetime p q d = let x = d.at 0 in moved p q x refl
 
 pub level_name : level script.name ≡ true
 unfolding scripts
@@ -30,9 +37,11 @@ pub level_name_ref_or_index : level script.name_ref_or_index ≡ true
 unfolding scripts
 level_name_ref_or_index = refl
 
-pub moves_name_ref_or_index : (k : ℕ) → moves script.name_ref_or_index k ≡ true
+pub moved_name_ref_or_index : {v : Outcome} → (p q : Parser) →
+    DoesAlone script.name_ref_or_index v (state p) (state q) →
+    (state q).left < (state p).left
 unfolding scripts
-moves_name_ref_or_index k = refl
+moved_name_ref_or_index p q d = let x = d.at 0 in moved p q x refl
 
 pub level_name_ref_or_upper_self : level script.name_ref_or_upper_self ≡ true
 unfolding scripts
@@ -42,9 +51,11 @@ pub level_abi : level script.abi ≡ true
 unfolding scripts
 level_abi = refl
 
-pub moves_abi : (k : ℕ) → moves script.abi k ≡ true
+pub moved_abi : {v : Outcome} → (p q : Parser) →
+    DoesAlone script.abi v (state p) (state q) →
+    (state q).left < (state p).left
 unfolding scripts
-moves_abi k = refl
+moved_abi p q d = let x = d.at 0 in moved p q x refl
 
 pub level_name_ref_or_self : level script.name_ref_or_self ≡ true
 unfolding scripts
@@ -54,9 +65,11 @@ pub level_name_any_identifier : level script.name_any_identifier ≡ true
 unfolding scripts
 level_name_any_identifier = refl
 
-pub moves_name_any_identifier : (k : ℕ) → moves script.name_any_identifier k ≡ true
+pub moved_name_any_identifier : {v : Outcome} → (p q : Parser) →
+    DoesAlone script.name_any_identifier v (state p) (state q) →
+    (state q).left < (state p).left
 unfolding scripts
-moves_name_any_identifier k = refl
+moved_name_any_identifier p q d = let x = d.at 0 in moved p q x refl
 
 pub level_opt_rename : level script.opt_rename ≡ true
 unfolding scripts
@@ -64,18 +77,19 @@ level_opt_rename = refl
 
 -- all of them
 pub ruleset facts = (
+  kept,
   level_name_ref_mod_path,
   level_name_ref_mod_path_or_index,
   level_lifetime,
-  moves_lifetime,
+  moved_lifetime,
   level_name,
   level_name_ref_or_index,
-  moves_name_ref_or_index,
+  moved_name_ref_or_index,
   level_name_ref_or_upper_self,
   level_abi,
-  moves_abi,
+  moved_abi,
   level_name_ref_or_self,
   level_name_any_identifier,
-  moves_name_any_identifier,
+  moved_name_any_identifier,
   level_opt_rename,
 )

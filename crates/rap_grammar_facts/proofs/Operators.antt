@@ -1,9 +1,14 @@
 -- What is computed of the scripts of Operators: the open nodes are as before, and a token is taken.
 -- Written by crates/rap_grammar_facts/facts from the scripts: an edit here is lost.
-use Rattle.std.proofs.Common.{◌≡◌, ℕ, true, refl}
+use Rattle.std.proofs.Common.{◌≡◌, ◌<◌, ℕ, true, refl}
+use Rattle.rap_events.specs.State.{state}
+use Rattle.rap_events.specs.declared.parser.Parser.{Parser}
 use Rattle.rap_grammar_scripts.specs.Effects.{level}
-use Rattle.rap_grammar_scripts.specs.Moves.{moves}
+use Rattle.rap_grammar_scripts.specs.Exec.{Does}
+use Rattle.rap_grammar_scripts.specs.Script.{Outcome}
 use Rattle.rap_grammar_scripts.specs.declared.arguments.Restrictions.{Restrictions}
+use Rattle.rap_grammar_frame.proofs.Done.{moved}
+use Rattle.rap_grammar_facts.proofs.Alone.{kept}
 use Rattle.rap_grammar_scripts.proofs.Scripts.{scripts}
 use Rattle.rap_grammar_scripts.specs.Operators as script
 
@@ -11,9 +16,11 @@ pub level_cast_expr : level script.cast_expr ≡ true
 unfolding scripts
 level_cast_expr = refl
 
-pub moves_cast_expr : (k : ℕ) → moves script.cast_expr k ≡ true
+pub moved_cast_expr : {n : ℕ} {v : Outcome} → (p q : Parser) →
+    Does n script.cast_expr v (state p) (state q) →
+    (state q).left < (state p).left
 unfolding scripts
-moves_cast_expr k = refl
+moved_cast_expr p q d = moved p q d refl
 
 pub level_ref_qualifier : level script.ref_qualifier ≡ true
 unfolding scripts
@@ -23,25 +30,30 @@ pub level_ref_expr : (a : Restrictions) → level (script.ref_expr a) ≡ true
 unfolding scripts
 level_ref_expr a = refl
 
-pub moves_ref_expr : (a : Restrictions) → (k : ℕ) → moves (script.ref_expr a) k ≡ true
+pub moved_ref_expr : {n : ℕ} {v : Outcome} (a : Restrictions) → (p q : Parser) →
+    Does n (script.ref_expr a) v (state p) (state q) →
+    (state q).left < (state p).left
 unfolding scripts
-moves_ref_expr a k = refl
+moved_ref_expr a p q d = moved p q d refl
 
 pub level_prefix_expr : (a : Restrictions) → level (script.prefix_expr a) ≡ true
 unfolding scripts
 level_prefix_expr a = refl
 
-pub moves_prefix_expr : (a : Restrictions) → (k : ℕ) → moves (script.prefix_expr a) k ≡ true
+pub moved_prefix_expr : {n : ℕ} {v : Outcome} (a : Restrictions) → (p q : Parser) →
+    Does n (script.prefix_expr a) v (state p) (state q) →
+    (state q).left < (state p).left
 unfolding scripts
-moves_prefix_expr a k = refl
+moved_prefix_expr a p q d = moved p q d refl
 
 -- all of them
 pub ruleset facts = (
+  kept,
   level_cast_expr,
-  moves_cast_expr,
+  moved_cast_expr,
   level_ref_qualifier,
   level_ref_expr,
-  moves_ref_expr,
+  moved_ref_expr,
   level_prefix_expr,
-  moves_prefix_expr,
+  moved_prefix_expr,
 )

@@ -1,10 +1,16 @@
 -- What is computed of the scripts of Paths: the open nodes are as before, and a token is taken.
 -- Written by crates/rap_grammar_facts/facts from the scripts: an edit here is lost.
-use Rattle.std.proofs.Common.{◌≡◌, ℕ, Bool, true, false, refl}
+use Rattle.std.proofs.Common.{◌≡◌, ◌<◌, ℕ, Bool, true, false, refl}
+use Rattle.rap_events.specs.State.{state}
+use Rattle.rap_events.specs.declared.parser.Parser.{Parser}
 use Rattle.rap_grammar_scripts.specs.Effects.{level}
-use Rattle.rap_grammar_scripts.specs.Moves.{moves}
+use Rattle.rap_grammar_scripts.specs.Exec.{Does}
+use Rattle.rap_grammar_scripts.specs.Script.{Outcome}
 use Rattle.rap_grammar_scripts.specs.declared.arguments.Mode.{Mode}
 use Rattle.rap_grammar_scripts.specs.declared.arguments.Mode.TheVariants as mode
+use Rattle.rap_grammar_frame.proofs.Done.{moved}
+use Rattle.rap_grammar_facts.specs.Alone.{DoesAlone}
+use Rattle.rap_grammar_facts.proofs.Alone.{kept}
 use Rattle.rap_grammar_scripts.proofs.Scripts.{scripts}
 use Rattle.rap_grammar_scripts.specs.Paths as script
 
@@ -12,13 +18,17 @@ pub level_type_arg_element : level script.type_arg_element ≡ true
 unfolding scripts
 level_type_arg_element = refl
 
-pub moves_parenthesized_args : (k : ℕ) → moves script.parenthesized_args k ≡ true
+pub moved_parenthesized_args : {n : ℕ} {v : Outcome} → (p q : Parser) →
+    Does n script.parenthesized_args v (state p) (state q) →
+    (state q).left < (state p).left
 unfolding scripts
-moves_parenthesized_args k = refl
+moved_parenthesized_args p q d = moved p q d refl
 
-pub moves_return_type_syntax : (k : ℕ) → moves script.return_type_syntax k ≡ true
+pub moved_return_type_syntax : {v : Outcome} → (p q : Parser) →
+    DoesAlone script.return_type_syntax v (state p) (state q) →
+    (state q).left < (state p).left
 unfolding scripts
-moves_return_type_syntax k = refl
+moved_return_type_syntax p q d = let x = d.at 0 in moved p q x refl
 
 pub level_opt_path_type_args : level script.opt_path_type_args ≡ true
 unfolding scripts
@@ -40,11 +50,13 @@ pub level_type_anchor : level script.type_anchor ≡ true
 unfolding scripts
 level_type_anchor = refl
 
-pub moves_type_anchor : (k : ℕ) → moves script.type_anchor k ≡ true
+pub moved_type_anchor : {n : ℕ} {v : Outcome} → (p q : Parser) →
+    Does n script.type_anchor v (state p) (state q) →
+    (state q).left < (state p).left
 unfolding scripts
-moves_type_anchor k = refl
+moved_type_anchor p q d = moved p q d refl
 
-pub level_path_segment : (a : Mode) → (b : Bool) → level (script.path_segment a b) ≡ true
+pub level_path_segment : (a : Mode) (b : Bool) → level (script.path_segment a b) ≡ true
 unfolding scripts
 level_path_segment mode.Use true = refl
 level_path_segment mode.Use false = refl
@@ -99,14 +111,15 @@ level_type_path_for_qualifier = refl
 
 -- all of them
 pub ruleset facts = (
+  kept,
   level_type_arg_element,
-  moves_parenthesized_args,
-  moves_return_type_syntax,
+  moved_parenthesized_args,
+  moved_return_type_syntax,
   level_opt_path_type_args,
   level_opt_path_args,
   level_anchor_trait,
   level_type_anchor,
-  moves_type_anchor,
+  moved_type_anchor,
   level_path_segment,
   level_path_for_qualifier,
   level_path,

@@ -1,8 +1,14 @@
 -- What is computed of the scripts of Patterns: the open nodes are as before, and a token is taken.
 -- Written by crates/rap_grammar_facts/facts from the scripts: an edit here is lost.
-use Rattle.std.proofs.Common.{◌≡◌, ℕ, Bool, true, false, refl}
+use Rattle.std.proofs.Common.{◌≡◌, ◌<◌, ℕ, Bool, true, false, refl}
+use Rattle.rap_events.specs.State.{state}
+use Rattle.rap_events.specs.declared.parser.Parser.{Parser}
 use Rattle.rap_grammar_scripts.specs.Effects.{level}
-use Rattle.rap_grammar_scripts.specs.Moves.{moves}
+use Rattle.rap_grammar_scripts.specs.Exec.{Does}
+use Rattle.rap_grammar_scripts.specs.Script.{Outcome}
+use Rattle.rap_grammar_frame.proofs.Done.{moved}
+use Rattle.rap_grammar_facts.specs.Alone.{DoesAlone}
+use Rattle.rap_grammar_facts.proofs.Alone.{kept}
 use Rattle.rap_grammar_scripts.proofs.Scripts.{scripts}
 use Rattle.rap_grammar_scripts.specs.Patterns as script
 
@@ -24,17 +30,21 @@ pub level_box_pat : level script.box_pat ≡ true
 unfolding scripts
 level_box_pat = refl
 
-pub moves_box_pat : (k : ℕ) → moves script.box_pat k ≡ true
+pub moved_box_pat : {n : ℕ} {v : Outcome} → (p q : Parser) →
+    Does n script.box_pat v (state p) (state q) →
+    (state q).left < (state p).left
 unfolding scripts
-moves_box_pat k = refl
+moved_box_pat p q d = moved p q d refl
 
 pub level_const_block_pat : level script.const_block_pat ≡ true
 unfolding scripts
 level_const_block_pat = refl
 
-pub moves_const_block_pat : (k : ℕ) → moves script.const_block_pat k ≡ true
+pub moved_const_block_pat : {n : ℕ} {v : Outcome} → (p q : Parser) →
+    Does n script.const_block_pat v (state p) (state q) →
+    (state q).left < (state p).left
 unfolding scripts
-moves_const_block_pat k = refl
+moved_const_block_pat p q d = moved p q d refl
 
 pub level_literal_pat : level script.literal_pat ≡ true
 unfolding scripts
@@ -44,33 +54,41 @@ pub level_wildcard_pat : level script.wildcard_pat ≡ true
 unfolding scripts
 level_wildcard_pat = refl
 
-pub moves_wildcard_pat : (k : ℕ) → moves script.wildcard_pat k ≡ true
+pub moved_wildcard_pat : {v : Outcome} → (p q : Parser) →
+    DoesAlone script.wildcard_pat v (state p) (state q) →
+    (state q).left < (state p).left
 unfolding scripts
-moves_wildcard_pat k = refl
+moved_wildcard_pat p q d = let x = d.at 0 in moved p q x refl
 
 pub level_ref_pat : level script.ref_pat ≡ true
 unfolding scripts
 level_ref_pat = refl
 
-pub moves_ref_pat : (k : ℕ) → moves script.ref_pat k ≡ true
+pub moved_ref_pat : {n : ℕ} {v : Outcome} → (p q : Parser) →
+    Does n script.ref_pat v (state p) (state q) →
+    (state q).left < (state p).left
 unfolding scripts
-moves_ref_pat k = refl
+moved_ref_pat p q d = moved p q d refl
 
 pub level_not_null_pat : level script.not_null_pat ≡ true
 unfolding scripts
 level_not_null_pat = refl
 
-pub moves_not_null_pat : (k : ℕ) → moves script.not_null_pat k ≡ true
+pub moved_not_null_pat : {n : ℕ} {v : Outcome} → (p q : Parser) →
+    Does n script.not_null_pat v (state p) (state q) →
+    (state q).left < (state p).left
 unfolding scripts
-moves_not_null_pat k = refl
+moved_not_null_pat p q d = moved p q d refl
 
 pub level_slice_pat : level script.slice_pat ≡ true
 unfolding scripts
 level_slice_pat = refl
 
-pub moves_slice_pat : (k : ℕ) → moves script.slice_pat k ≡ true
+pub moved_slice_pat : {n : ℕ} {v : Outcome} → (p q : Parser) →
+    Does n script.slice_pat v (state p) (state q) →
+    (state q).left < (state p).left
 unfolding scripts
-moves_slice_pat k = refl
+moved_slice_pat p q d = moved p q d refl
 
 pub level_leading_comma : level script.leading_comma ≡ true
 unfolding scripts
@@ -85,9 +103,11 @@ pub level_tuple_pat : level script.tuple_pat ≡ true
 unfolding scripts
 level_tuple_pat = refl
 
-pub moves_tuple_pat : (k : ℕ) → moves script.tuple_pat k ≡ true
+pub moved_tuple_pat : {n : ℕ} {v : Outcome} → (p q : Parser) →
+    Does n script.tuple_pat v (state p) (state q) →
+    (state q).left < (state p).left
 unfolding scripts
-moves_tuple_pat k = refl
+moved_tuple_pat p q d = moved p q d refl
 
 pub level_record_pat_field : level script.record_pat_field ≡ true
 unfolding scripts
@@ -105,17 +125,21 @@ pub level_record_pat_field_list : level script.record_pat_field_list ≡ true
 unfolding scripts
 level_record_pat_field_list = refl
 
-pub moves_record_pat_field_list : (k : ℕ) → moves script.record_pat_field_list k ≡ true
+pub moved_record_pat_field_list : {n : ℕ} {v : Outcome} → (p q : Parser) →
+    Does n script.record_pat_field_list v (state p) (state q) →
+    (state q).left < (state p).left
 unfolding scripts
-moves_record_pat_field_list k = refl
+moved_record_pat_field_list p q d = moved p q d refl
 
 pub level_tuple_pat_fields : level script.tuple_pat_fields ≡ true
 unfolding scripts
 level_tuple_pat_fields = refl
 
-pub moves_tuple_pat_fields : (k : ℕ) → moves script.tuple_pat_fields k ≡ true
+pub moved_tuple_pat_fields : {n : ℕ} {v : Outcome} → (p q : Parser) →
+    Does n script.tuple_pat_fields v (state p) (state q) →
+    (state q).left < (state p).left
 unfolding scripts
-moves_tuple_pat_fields k = refl
+moved_tuple_pat_fields p q d = moved p q d refl
 
 pub level_path_or_macro_pat : level script.path_or_macro_pat ≡ true
 unfolding scripts
@@ -125,9 +149,11 @@ pub level_builtin_pat : level script.builtin_pat ≡ true
 unfolding scripts
 level_builtin_pat = refl
 
-pub moves_builtin_pat : (k : ℕ) → moves script.builtin_pat k ≡ true
+pub moved_builtin_pat : {n : ℕ} {v : Outcome} → (p q : Parser) →
+    Does n script.builtin_pat v (state p) (state q) →
+    (state q).left < (state p).left
 unfolding scripts
-moves_builtin_pat k = refl
+moved_builtin_pat p q d = moved p q d refl
 
 pub level_missing_pat : (a : Bool) → level (script.missing_pat a) ≡ true
 unfolding scripts
@@ -154,20 +180,24 @@ unfolding scripts
 level_range_to_pat true = refl
 level_range_to_pat false = refl
 
-pub moves_range_to_pat : (a : Bool) → (k : ℕ) → moves (script.range_to_pat a) k ≡ true
+pub moved_range_to_pat : {n : ℕ} {v : Outcome} (a : Bool) → (p q : Parser) →
+    Does n (script.range_to_pat a) v (state p) (state q) →
+    (state q).left < (state p).left
 unfolding scripts
-moves_range_to_pat true k = refl
-moves_range_to_pat false k = refl
+moved_range_to_pat true p q d = moved p q d refl
+moved_range_to_pat false p q d = moved p q d refl
 
 pub level_rest_pat : (a : Bool) → level (script.rest_pat a) ≡ true
 unfolding scripts
 level_rest_pat true = refl
 level_rest_pat false = refl
 
-pub moves_rest_pat : (a : Bool) → (k : ℕ) → moves (script.rest_pat a) k ≡ true
+pub moved_rest_pat : {n : ℕ} {v : Outcome} (a : Bool) → (p q : Parser) →
+    Does n (script.rest_pat a) v (state p) (state q) →
+    (state q).left < (state p).left
 unfolding scripts
-moves_rest_pat true k = refl
-moves_rest_pat false k = refl
+moved_rest_pat true p q d = moved p q d refl
+moved_rest_pat false p q d = moved p q d refl
 
 pub level_pattern_single_r : (a : Bool) → level (script.pattern_single_r a) ≡ true
 unfolding scripts
@@ -186,44 +216,45 @@ level_pattern_r false = refl
 
 -- all of them
 pub ruleset facts = (
+  kept,
   level_binding,
   level_at_pattern,
   level_ident_pat,
   level_box_pat,
-  moves_box_pat,
+  moved_box_pat,
   level_const_block_pat,
-  moves_const_block_pat,
+  moved_const_block_pat,
   level_literal_pat,
   level_wildcard_pat,
-  moves_wildcard_pat,
+  moved_wildcard_pat,
   level_ref_pat,
-  moves_ref_pat,
+  moved_ref_pat,
   level_not_null_pat,
-  moves_not_null_pat,
+  moved_not_null_pat,
   level_slice_pat,
-  moves_slice_pat,
+  moved_slice_pat,
   level_leading_comma,
   level_tuple_patterns,
   level_tuple_pat,
-  moves_tuple_pat,
+  moved_tuple_pat,
   level_record_pat_field,
   level_record_pat_element,
   level_record_pat_fields,
   level_record_pat_field_list,
-  moves_record_pat_field_list,
+  moved_record_pat_field_list,
   level_tuple_pat_fields,
-  moves_tuple_pat_fields,
+  moved_tuple_pat_fields,
   level_path_or_macro_pat,
   level_builtin_pat,
-  moves_builtin_pat,
+  moved_builtin_pat,
   level_missing_pat,
   level_symbol_pat,
   level_atom_pat,
   level_range_op,
   level_range_to_pat,
-  moves_range_to_pat,
+  moved_range_to_pat,
   level_rest_pat,
-  moves_rest_pat,
+  moved_rest_pat,
   level_pattern_single_r,
   level_alternatives,
   level_pattern_r,

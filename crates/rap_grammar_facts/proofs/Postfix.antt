@@ -1,8 +1,14 @@
 -- What is computed of the scripts of Postfix: the open nodes are as before, and a token is taken.
 -- Written by crates/rap_grammar_facts/facts from the scripts: an edit here is lost.
-use Rattle.std.proofs.Common.{◌≡◌, ℕ, true, refl}
+use Rattle.std.proofs.Common.{◌≡◌, ◌<◌, ℕ, true, refl}
+use Rattle.rap_events.specs.State.{state}
+use Rattle.rap_events.specs.declared.parser.Parser.{Parser}
 use Rattle.rap_grammar_scripts.specs.Effects.{level}
-use Rattle.rap_grammar_scripts.specs.Moves.{moves}
+use Rattle.rap_grammar_scripts.specs.Exec.{Does}
+use Rattle.rap_grammar_scripts.specs.Script.{Outcome}
+use Rattle.rap_grammar_frame.proofs.Done.{moved}
+use Rattle.rap_grammar_facts.specs.Alone.{DoesAlone}
+use Rattle.rap_grammar_facts.proofs.Alone.{kept}
 use Rattle.rap_grammar_scripts.proofs.Scripts.{scripts}
 use Rattle.rap_grammar_scripts.specs.Postfix as script
 
@@ -10,52 +16,65 @@ pub level_arg_list : level script.arg_list ≡ true
 unfolding scripts
 level_arg_list = refl
 
-pub moves_arg_list : (k : ℕ) → moves script.arg_list k ≡ true
+pub moved_arg_list : {n : ℕ} {v : Outcome} → (p q : Parser) →
+    Does n script.arg_list v (state p) (state q) →
+    (state q).left < (state p).left
 unfolding scripts
-moves_arg_list k = refl
+moved_arg_list p q d = moved p q d refl
 
 pub level_call_expr : level script.call_expr ≡ true
 unfolding scripts
 level_call_expr = refl
 
-pub moves_call_expr : (k : ℕ) → moves script.call_expr k ≡ true
+pub moved_call_expr : {n : ℕ} {v : Outcome} → (p q : Parser) →
+    Does n script.call_expr v (state p) (state q) →
+    (state q).left < (state p).left
 unfolding scripts
-moves_call_expr k = refl
+moved_call_expr p q d = moved p q d refl
 
 pub level_index_expr : level script.index_expr ≡ true
 unfolding scripts
 level_index_expr = refl
 
-pub moves_index_expr : (k : ℕ) → moves script.index_expr k ≡ true
+pub moved_index_expr : {n : ℕ} {v : Outcome} → (p q : Parser) →
+    Does n script.index_expr v (state p) (state q) →
+    (state q).left < (state p).left
 unfolding scripts
-moves_index_expr k = refl
+moved_index_expr p q d = moved p q d refl
 
 pub level_try_expr : level script.try_expr ≡ true
 unfolding scripts
 level_try_expr = refl
 
-pub moves_try_expr : (k : ℕ) → moves script.try_expr k ≡ true
+pub moved_try_expr : {v : Outcome} → (p q : Parser) →
+    DoesAlone script.try_expr v (state p) (state q) →
+    (state q).left < (state p).left
 unfolding scripts
-moves_try_expr k = refl
+moved_try_expr p q d = let x = d.at 0 in moved p q x refl
 
-pub moves_await_expr : (k : ℕ) → moves script.await_expr k ≡ true
+pub moved_await_expr : {v : Outcome} → (p q : Parser) →
+    DoesAlone script.await_expr v (state p) (state q) →
+    (state q).left < (state p).left
 unfolding scripts
-moves_await_expr k = refl
+moved_await_expr p q d = let x = d.at 0 in moved p q x refl
 
-pub moves_postfix_dot_expr : (k : ℕ) → moves script.postfix_dot_expr k ≡ true
+pub moved_postfix_dot_expr : {n : ℕ} {v : Outcome} → (p q : Parser) →
+    Does n script.postfix_dot_expr v (state p) (state q) →
+    (state q).left < (state p).left
 unfolding scripts
-moves_postfix_dot_expr k = refl
+moved_postfix_dot_expr p q d = moved p q d refl
 
 -- all of them
 pub ruleset facts = (
+  kept,
   level_arg_list,
-  moves_arg_list,
+  moved_arg_list,
   level_call_expr,
-  moves_call_expr,
+  moved_call_expr,
   level_index_expr,
-  moves_index_expr,
+  moved_index_expr,
   level_try_expr,
-  moves_try_expr,
-  moves_await_expr,
-  moves_postfix_dot_expr,
+  moved_try_expr,
+  moved_await_expr,
+  moved_postfix_dot_expr,
 )

@@ -1,8 +1,13 @@
 -- What is computed of the scripts of Records: the open nodes are as before, and a token is taken.
 -- Written by crates/rap_grammar_facts/facts from the scripts: an edit here is lost.
-use Rattle.std.proofs.Common.{◌≡◌, ℕ, true, refl}
+use Rattle.std.proofs.Common.{◌≡◌, ◌<◌, ℕ, true, refl}
+use Rattle.rap_events.specs.State.{state}
+use Rattle.rap_events.specs.declared.parser.Parser.{Parser}
 use Rattle.rap_grammar_scripts.specs.Effects.{level}
-use Rattle.rap_grammar_scripts.specs.Moves.{moves}
+use Rattle.rap_grammar_scripts.specs.Exec.{Does}
+use Rattle.rap_grammar_scripts.specs.Script.{Outcome}
+use Rattle.rap_grammar_frame.proofs.Done.{moved}
+use Rattle.rap_grammar_facts.proofs.Alone.{kept}
 use Rattle.rap_grammar_scripts.proofs.Scripts.{scripts}
 use Rattle.rap_grammar_scripts.specs.Records as script
 
@@ -26,16 +31,19 @@ pub level_record_expr_field_list : level script.record_expr_field_list ≡ true
 unfolding scripts
 level_record_expr_field_list = refl
 
-pub moves_record_expr_field_list : (k : ℕ) → moves script.record_expr_field_list k ≡ true
+pub moved_record_expr_field_list : {n : ℕ} {v : Outcome} → (p q : Parser) →
+    Does n script.record_expr_field_list v (state p) (state q) →
+    (state q).left < (state p).left
 unfolding scripts
-moves_record_expr_field_list k = refl
+moved_record_expr_field_list p q d = moved p q d refl
 
 -- all of them
 pub ruleset facts = (
+  kept,
   level_field_name,
   level_base_of_record,
   level_record_field,
   level_record_fields,
   level_record_expr_field_list,
-  moves_record_expr_field_list,
+  moved_record_expr_field_list,
 )

@@ -4,10 +4,11 @@ use Rattle.std.proofs.Common.{◌≡◌, Bool, true, false, refl}
 use Rattle.rap_grammar_scripts.specs.Effects.{level}
 use Rattle.rap_grammar_scripts.specs.declared.arguments.Semicolon.{Semicolon}
 use Rattle.rap_grammar_scripts.specs.declared.arguments.Semicolon.TheVariants as semicolon
+use Rattle.rap_grammar_facts.proofs.Alone.{kept}
 use Rattle.rap_grammar_scripts.proofs.Scripts.{scripts}
 use Rattle.rap_grammar_scripts.specs.Statements as script
 
-pub level_expr_semicolon : (a : Semicolon) → (b : Bool) → level (script.expr_semicolon a b) ≡ true
+pub level_expr_semicolon : (a : Semicolon) (b : Bool) → level (script.expr_semicolon a b) ≡ true
 unfolding scripts
 level_expr_semicolon semicolon.Required true = refl
 level_expr_semicolon semicolon.Required false = refl
@@ -16,7 +17,7 @@ level_expr_semicolon semicolon.Optional false = refl
 level_expr_semicolon semicolon.Forbidden true = refl
 level_expr_semicolon semicolon.Forbidden false = refl
 
-pub level_expr_stmt_end : (a : Semicolon) → (b : Bool) → level (script.expr_stmt_end a b) ≡ true
+pub level_expr_stmt_end : (a : Semicolon) (b : Bool) → level (script.expr_stmt_end a b) ≡ true
 unfolding scripts
 level_expr_stmt_end semicolon.Required true = refl
 level_expr_stmt_end semicolon.Required false = refl
@@ -26,4 +27,4 @@ level_expr_stmt_end semicolon.Forbidden true = refl
 level_expr_stmt_end semicolon.Forbidden false = refl
 
 -- all of them
-pub ruleset facts = (level_expr_semicolon, level_expr_stmt_end)
+pub ruleset facts = (kept, level_expr_semicolon, level_expr_stmt_end)

@@ -1,8 +1,13 @@
 -- What is computed of the scripts of ThroughKnot: the open nodes are as before, and a token is taken.
 -- Written by crates/rap_grammar_facts/facts from the scripts: an edit here is lost.
-use Rattle.std.proofs.Common.{◌≡◌, ℕ, Bool, true, false, refl}
+use Rattle.std.proofs.Common.{◌≡◌, ◌<◌, ℕ, Bool, true, false, refl}
+use Rattle.rap_events.specs.State.{state}
+use Rattle.rap_events.specs.declared.parser.Parser.{Parser}
 use Rattle.rap_grammar_scripts.specs.Effects.{level}
-use Rattle.rap_grammar_scripts.specs.Moves.{moves}
+use Rattle.rap_grammar_scripts.specs.Exec.{Does}
+use Rattle.rap_grammar_scripts.specs.Script.{Outcome}
+use Rattle.rap_grammar_frame.proofs.Done.{moved}
+use Rattle.rap_grammar_facts.proofs.Alone.{kept}
 use Rattle.rap_grammar_scripts.proofs.Scripts.{scripts}
 use Rattle.rap_grammar_scripts.specs.ThroughKnot as script
 
@@ -62,9 +67,11 @@ pub level_bounds : level script.bounds ≡ true
 unfolding scripts
 level_bounds = refl
 
-pub moves_bounds : (k : ℕ) → moves script.bounds k ≡ true
+pub moved_bounds : {n : ℕ} {v : Outcome} → (p q : Parser) →
+    Does n script.bounds v (state p) (state q) →
+    (state q).left < (state p).left
 unfolding scripts
-moves_bounds k = refl
+moved_bounds p q d = moved p q d refl
 
 pub level_bounds_without_colon : level script.bounds_without_colon ≡ true
 unfolding scripts
@@ -82,7 +89,7 @@ pub level_if_expr : level script.if_expr ≡ true
 unfolding scripts
 level_if_expr = refl
 
-pub level_item_or_macro : (a : Bool) → (b : Bool) → level (script.item_or_macro a b) ≡ true
+pub level_item_or_macro : (a : Bool) (b : Bool) → level (script.item_or_macro a b) ≡ true
 unfolding scripts
 level_item_or_macro true true = refl
 level_item_or_macro true false = refl
@@ -105,20 +112,25 @@ pub level_ascription : level script.ascription ≡ true
 unfolding scripts
 level_ascription = refl
 
-pub moves_ascription : (k : ℕ) → moves script.ascription k ≡ true
+pub moved_ascription : {n : ℕ} {v : Outcome} → (p q : Parser) →
+    Does n script.ascription v (state p) (state q) →
+    (state q).left < (state p).left
 unfolding scripts
-moves_ascription k = refl
+moved_ascription p q d = moved p q d refl
 
 pub level_for_binder : level script.for_binder ≡ true
 unfolding scripts
 level_for_binder = refl
 
-pub moves_for_binder : (k : ℕ) → moves script.for_binder k ≡ true
+pub moved_for_binder : {n : ℕ} {v : Outcome} → (p q : Parser) →
+    Does n script.for_binder v (state p) (state q) →
+    (state q).left < (state p).left
 unfolding scripts
-moves_for_binder k = refl
+moved_for_binder p q d = moved p q d refl
 
 -- all of them
 pub ruleset facts = (
+  kept,
   level_expr,
   level_expr_no_struct,
   level_expr_stmt,
@@ -133,7 +145,7 @@ pub ruleset facts = (
   level_cfg_predicate_element,
   level_opt_generic_param_list,
   level_bounds,
-  moves_bounds,
+  moved_bounds,
   level_bounds_without_colon,
   level_opt_where_clause,
   level_arm_pattern,
@@ -143,7 +155,7 @@ pub ruleset facts = (
   level_opt_ret_type,
   level_opt_no_arrow_ret_type,
   level_ascription,
-  moves_ascription,
+  moved_ascription,
   level_for_binder,
-  moves_for_binder,
+  moved_for_binder,
 )

@@ -1,14 +1,32 @@
 -- What is computed of the scripts of Traits: the open nodes are as before, and a token is taken.
 -- Written by crates/rap_grammar_facts/facts from the scripts: an edit here is lost.
-use Rattle.std.proofs.Common.{◌≡◌, ℕ, true, refl}
+use Rattle.std.proofs.Common.{◌≡◌, ◌<◌, ℕ, true, false, Some, refl}
+use Rattle.rap_base.specs.TokenKind.{EOF, R_CURLY}
+use Rattle.rap_events.specs.Composite.{is_at}
+use Rattle.rap_events.specs.State.{state}
+use Rattle.rap_events.specs.declared.parser.Parser.{Parser}
 use Rattle.rap_grammar_scripts.specs.Effects.{level}
-use Rattle.rap_grammar_scripts.specs.Moves.{moves}
+use Rattle.rap_grammar_scripts.specs.Exec.{Does}
+use Rattle.rap_grammar_scripts.specs.Script.{Outcome, something}
+use Rattle.rap_grammar_frame.specs.Grew.{Took, Ended}
+use Rattle.rap_grammar_frame.specs.Room.{list_room, item_room}
+use Rattle.rap_grammar_frame.proofs.Done.{moved, took}
+use Rattle.rap_grammar_frame.proofs.Ended.{ended}
+use Rattle.rap_grammar_facts.proofs.Alone.{kept}
+use Rattle.rap_grammar_facts.proofs.Moved.{moved_inside}
 use Rattle.rap_grammar_scripts.proofs.Scripts.{scripts}
 use Rattle.rap_grammar_scripts.specs.Traits as script
 
 pub level_assoc_item : level script.assoc_item ≡ true
 unfolding scripts
 level_assoc_item = refl
+
+pub inside_assoc_item : {n : ℕ} {v : Outcome} → (p q : Parser) →
+    Does n script.assoc_item v (state p) (state q) →
+    is_at EOF (state p).rest ≡ false → is_at R_CURLY (state p).rest ≡ false →
+    (state q).left < (state p).left
+unfolding scripts
+inside_assoc_item p q d e f = moved_inside p q d e f refl
 
 pub level_assoc_items : level script.assoc_items ≡ true
 unfolding scripts
@@ -18,9 +36,17 @@ pub level_assoc_item_list : level script.assoc_item_list ≡ true
 unfolding scripts
 level_assoc_item_list = refl
 
-pub moves_assoc_item_list : (k : ℕ) → moves script.assoc_item_list k ≡ true
+pub moved_assoc_item_list : {n : ℕ} {v : Outcome} → (p q : Parser) →
+    Does n script.assoc_item_list v (state p) (state q) →
+    (state q).left < (state p).left
 unfolding scripts
-moves_assoc_item_list k = refl
+moved_assoc_item_list p q d = moved p q d refl
+
+pub took_assoc_item_list : {n : ℕ} → (p q : Parser) →
+    Does n script.assoc_item_list something (state p) (state q) →
+    Took (state p) (state q) list_room
+unfolding scripts
+took_assoc_item_list p q d = took list_room p q d refl (moved p q d refl)
 
 pub level_expect_assoc_item_list : level script.expect_assoc_item_list ≡ true
 unfolding scripts
@@ -38,9 +64,17 @@ pub level_trait_body : level script.trait_body ≡ true
 unfolding scripts
 level_trait_body = refl
 
-pub moves_trait_ : (k : ℕ) → moves script.trait_ k ≡ true
+pub moved_trait_ : {n : ℕ} {v : Outcome} → (p q : Parser) →
+    Does n script.trait_ v (state p) (state q) →
+    (state q).left < (state p).left
 unfolding scripts
-moves_trait_ k = refl
+moved_trait_ p q d = moved p q d refl
+
+pub ended_trait_ : {n : ℕ} {m : ℕ} → (p q : Parser) →
+    Does n script.trait_ something (state p) (state q) →
+    (state p).marker ≡ Some m → Ended (state p) (state q) item_room
+unfolding scripts
+ended_trait_ p q d e = ended item_room p q d refl (moved p q d refl) e
 
 pub level_impl_params : level script.impl_params ≡ true
 unfolding scripts
@@ -58,24 +92,37 @@ pub level_impl_types : level script.impl_types ≡ true
 unfolding scripts
 level_impl_types = refl
 
-pub moves_impl_ : (k : ℕ) → moves script.impl_ k ≡ true
+pub moved_impl_ : {n : ℕ} {v : Outcome} → (p q : Parser) →
+    Does n script.impl_ v (state p) (state q) →
+    (state q).left < (state p).left
 unfolding scripts
-moves_impl_ k = refl
+moved_impl_ p q d = moved p q d refl
+
+pub ended_impl_ : {n : ℕ} {m : ℕ} → (p q : Parser) →
+    Does n script.impl_ something (state p) (state q) →
+    (state p).marker ≡ Some m → Ended (state p) (state q) item_room
+unfolding scripts
+ended_impl_ p q d e = ended item_room p q d refl (moved p q d refl) e
 
 -- all of them
 pub ruleset facts = (
+  kept,
   level_assoc_item,
+  inside_assoc_item,
   level_assoc_items,
   level_assoc_item_list,
-  moves_assoc_item_list,
+  moved_assoc_item_list,
+  took_assoc_item_list,
   level_expect_assoc_item_list,
   level_trait_alias,
   level_opt_bounds,
   level_trait_body,
-  moves_trait_,
+  moved_trait_,
+  ended_trait_,
   level_impl_params,
   level_opt_negative,
   level_impl_type,
   level_impl_types,
-  moves_impl_,
+  moved_impl_,
+  ended_impl_,
 )

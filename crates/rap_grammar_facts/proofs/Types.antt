@@ -1,8 +1,14 @@
 -- What is computed of the scripts of Types: the open nodes are as before, and a token is taken.
 -- Written by crates/rap_grammar_facts/facts from the scripts: an edit here is lost.
-use Rattle.std.proofs.Common.{◌≡◌, ℕ, Bool, true, false, refl}
+use Rattle.std.proofs.Common.{◌≡◌, ◌<◌, ℕ, Bool, true, false, refl}
+use Rattle.rap_events.specs.State.{state}
+use Rattle.rap_events.specs.declared.parser.Parser.{Parser}
 use Rattle.rap_grammar_scripts.specs.Effects.{level}
-use Rattle.rap_grammar_scripts.specs.Moves.{moves}
+use Rattle.rap_grammar_scripts.specs.Exec.{Does}
+use Rattle.rap_grammar_scripts.specs.Script.{Outcome}
+use Rattle.rap_grammar_frame.proofs.Done.{moved}
+use Rattle.rap_grammar_facts.specs.Alone.{DoesAlone}
+use Rattle.rap_grammar_facts.proofs.Alone.{kept}
 use Rattle.rap_grammar_scripts.proofs.Scripts.{scripts}
 use Rattle.rap_grammar_scripts.specs.Types as script
 
@@ -14,17 +20,21 @@ pub level_paren_or_tuple_type : level script.paren_or_tuple_type ≡ true
 unfolding scripts
 level_paren_or_tuple_type = refl
 
-pub moves_paren_or_tuple_type : (k : ℕ) → moves script.paren_or_tuple_type k ≡ true
+pub moved_paren_or_tuple_type : {n : ℕ} {v : Outcome} → (p q : Parser) →
+    Does n script.paren_or_tuple_type v (state p) (state q) →
+    (state q).left < (state p).left
 unfolding scripts
-moves_paren_or_tuple_type k = refl
+moved_paren_or_tuple_type p q d = moved p q d refl
 
 pub level_never_type : level script.never_type ≡ true
 unfolding scripts
 level_never_type = refl
 
-pub moves_never_type : (k : ℕ) → moves script.never_type k ≡ true
+pub moved_never_type : {v : Outcome} → (p q : Parser) →
+    DoesAlone script.never_type v (state p) (state q) →
+    (state q).left < (state p).left
 unfolding scripts
-moves_never_type k = refl
+moved_never_type p q d = let x = d.at 0 in moved p q x refl
 
 pub level_ptr_qualifier : level script.ptr_qualifier ≡ true
 unfolding scripts
@@ -34,41 +44,51 @@ pub level_ptr_type : level script.ptr_type ≡ true
 unfolding scripts
 level_ptr_type = refl
 
-pub moves_ptr_type : (k : ℕ) → moves script.ptr_type k ≡ true
+pub moved_ptr_type : {n : ℕ} {v : Outcome} → (p q : Parser) →
+    Does n script.ptr_type v (state p) (state q) →
+    (state q).left < (state p).left
 unfolding scripts
-moves_ptr_type k = refl
+moved_ptr_type p q d = moved p q d refl
 
 pub level_array_length : level script.array_length ≡ true
 unfolding scripts
 level_array_length = refl
 
-pub moves_array_length : (k : ℕ) → moves script.array_length k ≡ true
+pub moved_array_length : {n : ℕ} {v : Outcome} → (p q : Parser) →
+    Does n script.array_length v (state p) (state q) →
+    (state q).left < (state p).left
 unfolding scripts
-moves_array_length k = refl
+moved_array_length p q d = moved p q d refl
 
 pub level_array_or_slice_type : level script.array_or_slice_type ≡ true
 unfolding scripts
 level_array_or_slice_type = refl
 
-pub moves_array_or_slice_type : (k : ℕ) → moves script.array_or_slice_type k ≡ true
+pub moved_array_or_slice_type : {n : ℕ} {v : Outcome} → (p q : Parser) →
+    Does n script.array_or_slice_type v (state p) (state q) →
+    (state q).left < (state p).left
 unfolding scripts
-moves_array_or_slice_type k = refl
+moved_array_or_slice_type p q d = moved p q d refl
 
 pub level_ref_type : level script.ref_type ≡ true
 unfolding scripts
 level_ref_type = refl
 
-pub moves_ref_type : (k : ℕ) → moves script.ref_type k ≡ true
+pub moved_ref_type : {n : ℕ} {v : Outcome} → (p q : Parser) →
+    Does n script.ref_type v (state p) (state q) →
+    (state q).left < (state p).left
 unfolding scripts
-moves_ref_type k = refl
+moved_ref_type p q d = moved p q d refl
 
 pub level_infer_type : level script.infer_type ≡ true
 unfolding scripts
 level_infer_type = refl
 
-pub moves_infer_type : (k : ℕ) → moves script.infer_type k ≡ true
+pub moved_infer_type : {v : Outcome} → (p q : Parser) →
+    DoesAlone script.infer_type v (state p) (state q) →
+    (state q).left < (state p).left
 unfolding scripts
-moves_infer_type k = refl
+moved_infer_type p q d = let x = d.at 0 in moved p q x refl
 
 pub level_fn_qualifiers : level script.fn_qualifiers ≡ true
 unfolding scripts
@@ -87,34 +107,42 @@ unfolding scripts
 level_for_type true = refl
 level_for_type false = refl
 
-pub moves_for_type : (a : Bool) → (k : ℕ) → moves (script.for_type a) k ≡ true
+pub moved_for_type : {n : ℕ} {v : Outcome} (a : Bool) → (p q : Parser) →
+    Does n (script.for_type a) v (state p) (state q) →
+    (state q).left < (state p).left
 unfolding scripts
-moves_for_type true k = refl
-moves_for_type false k = refl
+moved_for_type true p q d = moved p q d refl
+moved_for_type false p q d = moved p q d refl
 
 pub level_impl_trait_type : level script.impl_trait_type ≡ true
 unfolding scripts
 level_impl_trait_type = refl
 
-pub moves_impl_trait_type : (k : ℕ) → moves script.impl_trait_type k ≡ true
+pub moved_impl_trait_type : {n : ℕ} {v : Outcome} → (p q : Parser) →
+    Does n script.impl_trait_type v (state p) (state q) →
+    (state q).left < (state p).left
 unfolding scripts
-moves_impl_trait_type k = refl
+moved_impl_trait_type p q d = moved p q d refl
 
 pub level_dyn_trait_type : level script.dyn_trait_type ≡ true
 unfolding scripts
 level_dyn_trait_type = refl
 
-pub moves_dyn_trait_type : (k : ℕ) → moves script.dyn_trait_type k ≡ true
+pub moved_dyn_trait_type : {n : ℕ} {v : Outcome} → (p q : Parser) →
+    Does n script.dyn_trait_type v (state p) (state q) →
+    (state q).left < (state p).left
 unfolding scripts
-moves_dyn_trait_type k = refl
+moved_dyn_trait_type p q d = moved p q d refl
 
 pub level_dyn_trait_type_weak : level script.dyn_trait_type_weak ≡ true
 unfolding scripts
 level_dyn_trait_type_weak = refl
 
-pub moves_dyn_trait_type_weak : (k : ℕ) → moves script.dyn_trait_type_weak k ≡ true
+pub moved_dyn_trait_type_weak : {n : ℕ} {v : Outcome} → (p q : Parser) →
+    Does n script.dyn_trait_type_weak v (state p) (state q) →
+    (state q).left < (state p).left
 unfolding scripts
-moves_dyn_trait_type_weak k = refl
+moved_dyn_trait_type_weak p q d = moved p q d refl
 
 pub level_bare_dyn_trait_type : level script.bare_dyn_trait_type ≡ true
 unfolding scripts
@@ -128,9 +156,11 @@ pub level_pattern_type : level script.pattern_type ≡ true
 unfolding scripts
 level_pattern_type = refl
 
-pub moves_pattern_type : (k : ℕ) → moves script.pattern_type k ≡ true
+pub moved_pattern_type : {n : ℕ} {v : Outcome} → (p q : Parser) →
+    Does n script.pattern_type v (state p) (state q) →
+    (state q).left < (state p).left
 unfolding scripts
-moves_pattern_type k = refl
+moved_pattern_type p q d = moved p q d refl
 
 pub level_path_or_macro : (a : Bool) → level (script.path_or_macro a) ≡ true
 unfolding scripts
@@ -163,37 +193,38 @@ level_type_with_bounds_cond false = refl
 
 -- all of them
 pub ruleset facts = (
+  kept,
   level_tuple_types,
   level_paren_or_tuple_type,
-  moves_paren_or_tuple_type,
+  moved_paren_or_tuple_type,
   level_never_type,
-  moves_never_type,
+  moved_never_type,
   level_ptr_qualifier,
   level_ptr_type,
-  moves_ptr_type,
+  moved_ptr_type,
   level_array_length,
-  moves_array_length,
+  moved_array_length,
   level_array_or_slice_type,
-  moves_array_or_slice_type,
+  moved_array_or_slice_type,
   level_ref_type,
-  moves_ref_type,
+  moved_ref_type,
   level_infer_type,
-  moves_infer_type,
+  moved_infer_type,
   level_fn_qualifiers,
   level_fn_ptr_params,
   level_fn_ptr_type,
   level_for_type,
-  moves_for_type,
+  moved_for_type,
   level_impl_trait_type,
-  moves_impl_trait_type,
+  moved_impl_trait_type,
   level_dyn_trait_type,
-  moves_dyn_trait_type,
+  moved_dyn_trait_type,
   level_dyn_trait_type_weak,
-  moves_dyn_trait_type_weak,
+  moved_dyn_trait_type_weak,
   level_bare_dyn_trait_type,
   level_pattern_type_parts,
   level_pattern_type,
-  moves_pattern_type,
+  moved_pattern_type,
   level_path_or_macro,
   level_path_or_macro_type,
   level_path_type_bounds,

@@ -1,8 +1,13 @@
 -- What is computed of the scripts of Visibility: the open nodes are as before, and a token is taken.
 -- Written by crates/rap_grammar_facts/facts from the scripts: an edit here is lost.
-use Rattle.std.proofs.Common.{◌≡◌, ℕ, Bool, true, false, refl}
+use Rattle.std.proofs.Common.{◌≡◌, ◌<◌, ℕ, Bool, true, false, refl}
+use Rattle.rap_events.specs.State.{state}
+use Rattle.rap_events.specs.declared.parser.Parser.{Parser}
 use Rattle.rap_grammar_scripts.specs.Effects.{level}
-use Rattle.rap_grammar_scripts.specs.Moves.{moves}
+use Rattle.rap_grammar_scripts.specs.Exec.{Does}
+use Rattle.rap_grammar_scripts.specs.Script.{Outcome}
+use Rattle.rap_grammar_frame.proofs.Done.{moved}
+use Rattle.rap_grammar_facts.proofs.Alone.{kept}
 use Rattle.rap_grammar_scripts.proofs.Scripts.{scripts}
 use Rattle.rap_grammar_scripts.specs.Visibility as script
 
@@ -10,17 +15,21 @@ pub level_restriction : level script.restriction ≡ true
 unfolding scripts
 level_restriction = refl
 
-pub moves_restriction : (k : ℕ) → moves script.restriction k ≡ true
+pub moved_restriction : {n : ℕ} {v : Outcome} → (p q : Parser) →
+    Does n script.restriction v (state p) (state q) →
+    (state q).left < (state p).left
 unfolding scripts
-moves_restriction k = refl
+moved_restriction p q d = moved p q d refl
 
 pub level_in_restriction : level script.in_restriction ≡ true
 unfolding scripts
 level_in_restriction = refl
 
-pub moves_in_restriction : (k : ℕ) → moves script.in_restriction k ≡ true
+pub moved_in_restriction : {n : ℕ} {v : Outcome} → (p q : Parser) →
+    Does n script.in_restriction v (state p) (state q) →
+    (state q).left < (state p).left
 unfolding scripts
-moves_in_restriction k = refl
+moved_in_restriction p q d = moved p q d refl
 
 pub level_opt_visibility_inner : (a : Bool) → level (script.opt_visibility_inner a) ≡ true
 unfolding scripts
@@ -34,10 +43,11 @@ level_opt_visibility false = refl
 
 -- all of them
 pub ruleset facts = (
+  kept,
   level_restriction,
-  moves_restriction,
+  moved_restriction,
   level_in_restriction,
-  moves_in_restriction,
+  moved_in_restriction,
   level_opt_visibility_inner,
   level_opt_visibility,
 )

@@ -113,7 +113,7 @@ fn refuse(
 }
 
 /// An item that begins with a keyword of its own, or with a name that is read as one.
-#[tactic(auto, using(rap_grammar_items_adt::proofs::Lines::strukt_ended, rap_grammar_items_adt::proofs::Lines::enum_ended), unfolding(rap_grammar_scripts::specs::Items::opt_item_without_modifiers))]
+#[tactic(auto, using(rap_grammar_facts::proofs::UseItem::ended_use_, rap_grammar_facts::proofs::Modules::ended_mod_item, rap_grammar_facts::proofs::Modules::ended_type_item, rap_grammar_facts::proofs::Macros::ended_macro_def), unfolding(rap_grammar_scripts::specs::Items::opt_item_without_modifiers))]
 fn opt_item_without_modifiers<G: Grammar>(
     p: &mut Parser<'_>,
     g: &G,
@@ -159,7 +159,7 @@ fn opt_item_without_modifiers<G: Grammar>(
 }
 
 /// A crate's name, as `extern crate a;`, if `crate` follows.
-#[tactic(auto, unfolding(rap_grammar_scripts::specs::Items::opt_extern_crate))]
+#[tactic(auto, using(rap_grammar_facts::proofs::Modules::ended_extern_crate), unfolding(rap_grammar_scripts::specs::Items::opt_extern_crate))]
 fn opt_extern_crate(p: &mut Parser<'_>, m: Marker) -> Result<Result<(), Marker>, NoMemory>
     requires newest { (state p.old).marker ≡ Some m.pos.value }
     requires here { next (state p.old) ≡ EXTERN_KW }
@@ -182,7 +182,7 @@ fn is_named(p: &Parser<'_>) -> bool
 }
 
 /// A constant, if its name follows.
-#[tactic(auto, unfolding(rap_grammar_scripts::specs::Items::opt_named_const))]
+#[tactic(auto, using(rap_grammar_facts::proofs::Consts::ended_konst), unfolding(rap_grammar_scripts::specs::Items::opt_named_const))]
 fn opt_named_const<G: Grammar>(
     p: &mut Parser<'_>,
     g: &G,
@@ -203,7 +203,7 @@ fn opt_named_const<G: Grammar>(
 }
 
 /// A constant after modifiers, if its `const` begins no block.
-#[tactic(auto, unfolding(rap_grammar_scripts::specs::Items::opt_const))]
+#[tactic(auto, using(rap_grammar_facts::proofs::Consts::ended_konst), unfolding(rap_grammar_scripts::specs::Items::opt_const))]
 fn opt_const<G: Grammar>(
     p: &mut Parser<'_>,
     g: &G,
@@ -224,7 +224,7 @@ fn opt_const<G: Grammar>(
 }
 
 /// A static, if its name follows.
-#[tactic(auto, unfolding(rap_grammar_scripts::specs::Items::opt_static))]
+#[tactic(auto, using(rap_grammar_facts::proofs::Consts::ended_static_), unfolding(rap_grammar_scripts::specs::Items::opt_static))]
 fn opt_static<G: Grammar>(
     p: &mut Parser<'_>,
     g: &G,
@@ -271,7 +271,7 @@ fn starts_global_asm(p: &Parser<'_>) -> bool
 }
 
 /// An item that begins with a name that is read as a keyword, as `union`.
-#[tactic(auto, using(rap_grammar_items_adt::proofs::Lines::union_ended), unfolding(rap_grammar_scripts::specs::Items::opt_item_by_name))]
+#[tactic(auto, using(rap_grammar_facts::proofs::Macros::ended_macro_rules), unfolding(rap_grammar_scripts::specs::Items::opt_item_by_name))]
 fn opt_item_by_name<G: Grammar>(
     p: &mut Parser<'_>,
     g: &G,
@@ -317,7 +317,7 @@ fn global_asm<G: Grammar>(p: &mut Parser<'_>, g: &G, m: Marker) -> Result<(), No
 }
 
 /// An item after its modifiers, if one comes next; else the marker is handed back.
-#[tactic(auto, unfolding(rap_grammar_scripts::specs::Items::opt_item_with_modifiers))]
+#[tactic(auto, using(rap_grammar_facts::proofs::Functions::ended_fn_, rap_grammar_facts::proofs::Traits::ended_trait_, rap_grammar_facts::proofs::Traits::ended_impl_, rap_grammar_facts::proofs::Modules::ended_type_item), unfolding(rap_grammar_scripts::specs::Items::opt_item_with_modifiers))]
 fn opt_item_with_modifiers<G: Grammar>(
     p: &mut Parser<'_>,
     g: &G,
@@ -356,7 +356,7 @@ fn opt_item_with_modifiers<G: Grammar>(
 }
 
 /// A block of foreign items after its ABI, as the `{}` of `extern {}`.
-#[tactic(auto, unfolding(rap_events::specs::Machine::top, rap_grammar_scripts::specs::Items::opt_extern_block))]
+#[tactic(auto, using(rap_grammar_facts::proofs::Modules::took_extern_item_list), unfolding(rap_events::specs::Machine::top, rap_grammar_scripts::specs::Items::opt_extern_block))]
 fn opt_extern_block<G: Grammar>(
     p: &mut Parser<'_>,
     g: &G,

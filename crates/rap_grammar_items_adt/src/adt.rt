@@ -127,7 +127,7 @@ fn struct_fields<G: Grammar>(p: &mut Parser<'_>, g: &G) -> Result<(), NoMemory>
 }
 
 /// Fields in parentheses, and what stands after them.
-#[tactic(auto, using(crate::proofs::Lines::tuple_list_moved), unfolding(rap_grammar_scripts::specs::Adt::tuple_fields))]
+#[tactic(auto, using(rap_grammar_facts::proofs::Adt::moved_tuple_field_list), unfolding(rap_grammar_scripts::specs::Adt::tuple_fields))]
 fn tuple_fields<G: Grammar>(p: &mut Parser<'_>, g: &G) -> Result<(), NoMemory>
     requires within { Within G.valid G.left g.now (state p.old) }
     requires here { next (state p.old) ≡ L_PAREN }
@@ -179,7 +179,7 @@ pub fn variant_list<G: Grammar>(p: &mut Parser<'_>, g: &G) -> Result<(), NoMemor
 }
 
 /// Variants up to the brace that closes their list.
-#[tactic(auto, using(rap_grammar_frame::proofs::Loops::turns, rap_grammar_frame::proofs::Done::less_left, crate::proofs::Lines::variant_moved), unfolding(rap_grammar_scripts::specs::Adt::variants))]
+#[tactic(auto, using(rap_grammar_frame::proofs::Loops::turns, rap_grammar_frame::proofs::Done::less_left, rap_grammar_facts::proofs::Adt::inside_variant_or_block), unfolding(rap_grammar_scripts::specs::Adt::variants))]
 fn variants<G: Grammar>(p: &mut Parser<'_>, g: &G) -> Result<(), NoMemory>
     requires behind { Behind G.valid G.left g.now (state p.old) }
     ensures script { OnOk result (Does (G.left g.now) script.variants something (state p.old) (state p.new)) }
@@ -328,7 +328,7 @@ pub fn record_field_list<G: Grammar>(p: &mut Parser<'_>, g: &G) -> Result<(), No
 }
 
 /// Named fields up to the brace that closes their list.
-#[tactic(auto, using(rap_grammar_frame::proofs::Loops::turns, rap_grammar_frame::proofs::Done::less_left, crate::proofs::Lines::field_moved), unfolding(rap_grammar_scripts::specs::Adt::record_fields))]
+#[tactic(auto, using(rap_grammar_frame::proofs::Loops::turns, rap_grammar_frame::proofs::Done::less_left, rap_grammar_facts::proofs::Adt::inside_field_or_block), unfolding(rap_grammar_scripts::specs::Adt::record_fields))]
 fn record_fields<G: Grammar>(p: &mut Parser<'_>, g: &G) -> Result<(), NoMemory>
     requires behind { Behind G.valid G.left g.now (state p.old) }
     ensures script { OnOk result (Does (G.left g.now) script.record_fields something (state p.old) (state p.new)) }
@@ -484,7 +484,7 @@ fn tuple_field_list<G: Grammar>(p: &mut Parser<'_>, g: &G) -> Result<(), NoMemor
     Ok(())
 }
 
-/// A field without a name, as `#[a] pub b`.
+/// A field without a name.
 struct TupleField;
 
 impl Element for TupleField {
@@ -492,18 +492,29 @@ impl Element for TupleField {
 
     ghost first = { λ _. script.is_tuple_field_first };
 
-    #[tactic(auto, unfolding(rap_grammar_scripts::specs::Adt::tuple_field))]
+    #[tactic(auto, using(rap_grammar_facts::proofs::Adt::took_on_tuple_field, rap_grammar_facts::proofs::Adt::grew_tuple_field))]
     fn parse<G: Grammar>(&self, p: &mut Parser<'_>, g: &G) -> Result<bool, NoMemory> {
-        let m = p.start()?;
-        outer_attrs(p, g)?;
-        let has_vis = opt_visibility(p, g, true)?;
-        let found = restricted_tuple_field(p, g, m, has_vis)?;
+        let found = tuple_field(p, g)?;
         Ok(found)
     }
 
     fn is_first(&self, kind: SyntaxKind) -> bool {
         is_type_first(kind) || is_outer_attr_first(kind) || kind == T![pub]
     }
+}
+
+/// A field without a name, as `#[a] pub b`. Returns whether there is one.
+#[tactic(auto, unfolding(rap_grammar_scripts::specs::Adt::tuple_field))]
+fn tuple_field<G: Grammar>(p: &mut Parser<'_>, g: &G) -> Result<bool, NoMemory>
+    requires behind { Behind G.valid G.left g.now (state p.old) }
+    ensures script { IfOk result
+        (λ found. Does (G.left g.now) script.tuple_field (of_bool found) (state p.old) (state p.new)) }
+{
+    let m = p.start()?;
+    outer_attrs(p, g)?;
+    let has_vis = opt_visibility(p, g, true)?;
+    let found = restricted_tuple_field(p, g, m, has_vis)?;
+    Ok(found)
 }
 
 /// A field without a name from its `mut` restriction on. Returns whether there is one.

@@ -1,25 +1,16 @@
 -- What was read before an item, one part after another.
-use Rattle.std.proofs.Common.{◌≡◌, ◌≢◌, ℕ, suc, Bool, true, false, ◌||◌, ◌==◌, List, [], ◌∷◌, drop, Result, IfOk, refl, sym, ap, subst, ◌∙◌, arith}
+use Rattle.std.proofs.Common.{◌≡◌, ◌≢◌, ℕ, Bool, true, false, ◌||◌, List, Result, refl, sym, ap, subst, ◌∙◌, arith}
 use Rattle.std.specs.declared.result.Result.TheVariants.{Ok, Err}
-use Rattle.rap_base.specs.TokenKind.{EOF, R_CURLY, GLOBAL_ASM_KW}
-use Rattle.rap_events.specs.Record.{Record, next_kind, contextual_at}
-use Rattle.rap_events.specs.State.{State, next, Completed, Expected, Abandoned, Reported, Bumped, AteAs, Skipped}
-use Rattle.rap_events.specs.declared.parser.CompletedMarker.{CompletedMarker}
+use Rattle.rap_base.specs.TokenKind.{EOF, R_CURLY}
+use Rattle.rap_events.specs.Record.{next_kind}
+use Rattle.rap_events.specs.State.{State, next, Completed, Abandoned, Reported, Skipped}
 use Rattle.rap_events.specs.declared.parser.Marker.{Marker}
-use Rattle.rap_grammar_frame.specs.Grew.{Grew, Took, Ended, Dropped, Closes}
+use Rattle.rap_grammar_frame.specs.Grew.{Grew, Took, Ended, Dropped}
 use Rattle.rap_grammar_items_kinds.specs.ItemEnds.{Refused, Parted, Modified, Handed, EndsItem, SkipsItem}
-use Rattle.rap_grammar_scripts.specs.Modifiers.{found, either_of}
 use Rattle.rap_grammar_items_kinds.specs.ItemEnds.{Seen}
 use Rattle.rap_grammar_frame.specs.Room.{list_room, item_room}
-use Rattle.rap_grammar_scripts.specs.Script.{Script, Outcome, something, block, again, give}
-use Rattle.rap_grammar_scripts.specs.Stand.{Stand}
-use Rattle.rap_grammar_scripts.specs.Words.{of_bool, of_like, is_block}
-use Rattle.rap_grammar_scripts.proofs.Ends.{gives}
-use Rattle.rap_grammar_scripts.specs.declared.rule.Rule.{Rule}
-use Rattle.rap_grammar_scripts.specs.declared.arguments.BlockLike.{BlockLike}
-use Rattle.rap_grammar_scripts.specs.declared.arguments.BlockLike.TheVariants as like
 use Rattle.rap_grammar_frame.proofs.Growth.{gone}
-use Rattle.rap_grammar_frame.proofs.Steps.{On, clash}
+use Rattle.rap_grammar_frame.proofs.Steps.{clash}
 
 took_after : {s t u : State} → Grew s t 0 → Took t u list_room → Took s u list_room
 took_after x y = record {
@@ -74,27 +65,6 @@ seen_three x y z e f = seen_both f x (seen_both e y z)
 pub seen_five : {s t u v w x : State} {a b c d e o p q r : Bool} → Seen s t a → Seen t u b → Seen u v c → Seen v w d →
     Seen w x e → o ≡ d || e → p ≡ c || o → q ≡ b || p → r ≡ a || q → Seen s x r
 seen_five h i j k l e f g m = seen_both m h (seen_both g i (seen_both f j (seen_both e k l)))
-
--- the outcome of both parts
-pub outcome_both : (a b : Bool) {r : Bool} {w : Outcome} → r ≡ a || b → w ≡ of_bool b →
-    either_of (of_bool a) w ≡ of_bool r
-outcome_both true b e h = ap of_bool (sym e)
-outcome_both false b e h = h ∙ ap of_bool (sym e)
-
-pub found_is : (b : Bool) → found (of_bool b) ≡ b
-found_is true = refl
-found_is false = refl
-
--- both flags of the modifiers
-pub outcome_of : {a b : Bool} {w : Outcome} → w ≡ of_bool a → again (found w) (found (of_bool b)) ≡ again a b
-outcome_of {a = a} {b = b} e =
-    ap (λ (x : Outcome). again (found x) (found (of_bool b))) e ∙
-    ap (λ (x : Bool). again x (found (of_bool b))) (found_is a)
-    ∙ ap (again a) (found_is b)
-
--- a rule ends with an outcome
-pub gives_as : {j : ℕ} {v w : Outcome} {p : Stand} → v ≡ w → On j (give v) p p w
-gives_as {j = j} {v = v} {p = p} e = subst (λ (x : Outcome). On j (give v) p p x) e gives
 
 -- an item after what was read before it
 pub seen_ended : {s t u : State} {b : Bool} → Seen s t b → Ended t u item_room → Ended s u item_room
@@ -166,48 +136,6 @@ handed u {s = s} {v = true} (Ok _) x y z =
     }
 handed u {v = false} (Ok _) x y z = subst (λ (a : State). Ended a u item_room) (y refl) (z.ended refl)
 handed u (Err m) x y z = (z.1.0 ∙ y z.0, z.1.1)
-
--- whether a macro call reads like a block
-pub like_block : (e : BlockLike) {j : ℕ} {c : Script Rule} {p q : Stand} {b : Bool} → b ≡ is_block (of_like e) →
-    b ≡ true → On j c p q (of_like e) → On j c p q block
-like_block like.Block i h f = f
-like_block like.NotBlock i h f = absurd (clash h i)
-
-pub like_other : (e : BlockLike) {j : ℕ} {c : Script Rule} {p q : Stand} {b : Bool} → b ≡ is_block (of_like e) →
-    b ≡ false → On j c p q (of_like e) → On j c p q something
-like_other like.Block i h f = absurd (clash i h)
-like_other like.NotBlock i h f = f
-
--- an item that ends with its node
-pub ended_by : {s t u : State} {k : ℕ} → Completed t u k → Took s t list_room → Ended s u item_room
-ended_by y x = record {
-  input = y.recorded.input ∙ x.input;
-  left = omega (arith, x.left, y.recorded.left);
-  count = omega (arith, x.left, x.count, y.recorded.left, y.recorded.count);
-  messages = omega (arith, x.messages, y.recorded.messages);
-  below = gone (sym x.below ∙ y.below);
-}
-
-pub ended_closed : {s t u : State} {k : ℕ} {cm : CompletedMarker} → Closes k 16 t u cm → Took s t list_room →
-    Ended s u item_room
-ended_closed y x = record {
-  input = y.input ∙ x.input;
-  left = omega (arith, x.left, y.left);
-  count = omega (arith, x.left, x.count, y.left, y.count);
-  messages = omega (arith, x.messages, y.messages);
-  below = gone (sym x.below ∙ y.below);
-}
-
--- the same with a token before the end that may be missing
-pub ended_behind : {s t u v : State} {j k : ℕ} {b : Bool} → Completed u v k → Expected t u j b → Took s t list_room →
-    Ended s v item_room
-ended_behind z y x = record {
-  input = z.recorded.input ∙ y.input ∙ x.input;
-  left = omega (arith, x.left, y.left, z.recorded.left);
-  count = omega (arith, x.left, x.count, y.left, y.count, z.recorded.left, z.recorded.count);
-  messages = omega (arith, x.messages, y.messages, z.recorded.messages);
-  below = gone (sym x.below ∙ sym y.below ∙ z.below);
-}
 
 -- an item, or what stands in its place
 pub ends_at : {b : Bool} {s t : State} → Ended s t item_room → EndsItem b s t
@@ -303,41 +231,6 @@ handed_kept u {v = v} item x y e z = handed u item x y (subst (λ (a : State). M
 pub refused_kept : (u : State) (v : Bool) {s t r : State} {b : Bool} (item : Result (Unit {0}) Marker) →
     Seen s t b → r ≡ t → Refused v b r u item → Modified v s u item
 refused_kept u v {b = b} item x e y = refused u v item x (subst (λ (a : State). Refused v b a u item) e y)
-
--- a rule that asks for what was found
-pub on_found : {j : ℕ} (f : Bool → Script Rule) (b : Bool) {p q : Stand} {w : Outcome} → On j (f b) p q w →
-    On j (f (found (of_bool b))) p q w
-on_found f true d = d
-on_found f false d = d
-
--- what is known of a result, where it is handed on
-pub handed_if : {T E : Type 0} (r : Result T E) {P Q : T → Type 0} → IfOk r P → ((x : T) → P x → Q x) → IfOk r Q
-handed_if (Ok x) h f = f x h
-handed_if (Err e) h f = tt
-
--- two tokens on
-later : (rs : List Record) (n : ℕ) → contextual_at (drop 1 rs) n ≡ contextual_at rs (suc n)
-later [] n = refl
-later (r ∷ rs) n = refl
-
-pub asm_taken : {s t u w : State} {j k : ℕ} {b : Bool} → Bumped s t j 1 → Bumped t u k 1 → AteAs u w GLOBAL_ASM_KW b →
-    contextual_at s.rest 2 ≡ GLOBAL_ASM_KW → b ≡ true
-asm_taken {s = s} {t = t} {u = u} x y a h =
-    let e : contextual_at u.rest 0 ≡ GLOBAL_ASM_KW =
-    ap (λ (rs : List Record). contextual_at rs 0) y.rest ∙ later t.rest 0
-    ∙ ap (λ (rs : List Record). contextual_at rs 1) x.rest ∙ later s.rest 1 ∙ h in
-    a.decided ∙ ap (λ (k : ℕ). k == GLOBAL_ASM_KW) e
-
--- an item that ends with its node, and a message
-pub ended_reported : {s t u v : State} {k : ℕ} {bytes : List ℕ} → Reported u v bytes → Completed t u k →
-    Took s t list_room → Ended s v item_room
-ended_reported z y x = record {
-  input = z.input ∙ y.recorded.input ∙ x.input;
-  left = omega (arith, x.left, y.recorded.left, z.left);
-  count = omega (arith, x.left, x.count, y.recorded.left, y.recorded.count, z.left, z.count);
-  messages = omega (arith, x.messages, y.recorded.messages, z.messages);
-  below = rw (z.below, z.marker) (gone (sym x.below ∙ y.below));
-}
 
 pub skips_bumped : {b : Bool} {s t : State} {bytes : List ℕ} → Skipped s t bytes → next s ≢ EOF → SkipsItem b s t
 skips_bumped x h =

@@ -1,5 +1,5 @@
 -- What an item leaves of the marker under which it was read, and what is left where none follows.
-use Rattle.std.specs.Prelude.{◌≡◌, ◌≢◌, ℕ, ◌+◌, ◌*◌, ◌≤◌, Bool, true, false, ◌||◌, Some, Result, Ok, Err}
+use Rattle.std.specs.Prelude.{◌≡◌, ◌≢◌, ◌+◌, ◌*◌, ◌≤◌, Bool, true, false, ◌||◌, Some, Result, Ok, Err}
 use Rattle.rap_base.specs.TokenKind.{EOF, R_CURLY}
 use Rattle.rap_events.specs.Machine.{push, top}
 use Rattle.rap_events.specs.State.{State, next}

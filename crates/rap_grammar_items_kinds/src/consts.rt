@@ -4,9 +4,9 @@ ghost use Rattle.rap_base.specs.TokenKind.{STATIC_KW};
 ghost use Rattle.rap_events.specs.State.{state, next};
 ghost use Rattle.rap_grammar_scripts.specs.Consts as script;
 ghost use Rattle.rap_grammar_scripts.specs.Consts.{starts_const};
-ghost use Rattle.rap_grammar_frame.specs.Grew.{Within, Behind, Grew, Ended};
+ghost use Rattle.rap_grammar_frame.specs.Grew.{Within, Behind};
 ghost use Rattle.rap_grammar_scripts.specs.Exec.{Does};
-ghost use Rattle.rap_grammar_frame.specs.Room.{item_room, recovery_events};
+ghost use Rattle.rap_grammar_facts.specs.Alone.{DoesAlone};
 ghost use Rattle.rap_grammar_scripts.specs.Script.{something};
 ghost use Rattle.rap_grammar_scripts.specs.Test.{holds};
 
@@ -19,12 +19,11 @@ use rap_grammar_frame::names::name;
 use rap_grammar_frame::through_knot::{ascription, expr, opt_generic_param_list, opt_where_clause};
 
 /// A constant from its `const` or `type const` on, as `const A: b = c;`.
-#[tactic(auto, unfolding(rap_events::specs::Machine::top, rap_grammar_scripts::specs::Consts::konst))]
+#[tactic(auto, using(rap_grammar_frame::proofs::Done::marker_kept, rap_grammar_facts::proofs::Consts::level_const_or_static), unfolding(rap_grammar_scripts::specs::Consts::konst))]
 pub fn konst<G: Grammar>(p: &mut Parser<'_>, g: &G, m: Marker) -> Result<(), NoMemory>
     requires within { Within G.valid G.left g.now (state p.old) }
     requires newest { (state p.old).marker ≡ Some m.pos.value }
     requires here { holds starts_const (state p.old).rest ≡ true }
-    ensures ended { OnOk result (Ended (state p.old) (state p.new) item_room) }
     ensures script { OnOk result (Does (G.left g.now) script.konst something (state p.old) (state p.new)) }
 {
     p.eat(T![type])?;
@@ -35,12 +34,11 @@ pub fn konst<G: Grammar>(p: &mut Parser<'_>, g: &G, m: Marker) -> Result<(), NoM
 }
 
 /// A static from its keyword on, as `static A: b = c;`.
-#[tactic(auto, unfolding(rap_events::specs::Machine::top, rap_grammar_scripts::specs::Consts::static_))]
+#[tactic(auto, using(rap_grammar_frame::proofs::Done::marker_kept, rap_grammar_facts::proofs::Consts::level_const_or_static), unfolding(rap_grammar_scripts::specs::Consts::static_))]
 pub fn static_<G: Grammar>(p: &mut Parser<'_>, g: &G, m: Marker) -> Result<(), NoMemory>
     requires within { Within G.valid G.left g.now (state p.old) }
     requires newest { (state p.old).marker ≡ Some m.pos.value }
     requires here { next (state p.old) ≡ STATIC_KW }
-    ensures ended { OnOk result (Ended (state p.old) (state p.new) item_room) }
     ensures script { OnOk result (Does (G.left g.now) script.static_ something (state p.old) (state p.new)) }
 {
     p.bump(T![static])?;
@@ -50,10 +48,9 @@ pub fn static_<G: Grammar>(p: &mut Parser<'_>, g: &G, m: Marker) -> Result<(), N
 }
 
 /// A constant or a static, after its keyword.
-#[tactic(auto, unfolding(rap_grammar_scripts::specs::Consts::const_or_static))]
+#[tactic(auto, using(rap_grammar_frame::proofs::Done::less_left, rap_grammar_facts::proofs::Alone::alone_less_left), unfolding(rap_grammar_scripts::specs::Consts::const_or_static))]
 fn const_or_static<G: Grammar>(p: &mut Parser<'_>, g: &G, is_const: bool) -> Result<(), NoMemory>
     requires behind { Behind G.valid G.left g.now (state p.old) }
-    ensures grew { OnOk result (Grew (state p.old) (state p.new) 8) }
     ensures script { OnOk result
         (Does (G.left g.now) (script.const_or_static is_const) something (state p.old) (state p.new)) }
 {
@@ -70,9 +67,7 @@ fn const_or_static<G: Grammar>(p: &mut Parser<'_>, g: &G, is_const: bool) -> Res
 /// The name. A constant may have none, as `const _: a = b;`.
 #[tactic(auto, unfolding(rap_grammar_scripts::specs::Consts::const_name))]
 fn const_name(p: &mut Parser<'_>, is_const: bool) -> Result<(), NoMemory>
-    ensures grew { OnOk result (Grew (state p.old) (state p.new) recovery_events) }
-    ensures script { OnOk result
-        ((depth : ℕ) → Does depth (script.const_name is_const) something (state p.old) (state p.new)) }
+    ensures script { OnOk result (DoesAlone (script.const_name is_const) something (state p.old) (state p.new)) }
 {
     if !is_const {
         name(p)?;
@@ -89,7 +84,6 @@ fn const_name(p: &mut Parser<'_>, is_const: bool) -> Result<(), NoMemory>
 #[tactic(auto, using(rap_grammar_frame::proofs::Steps::by_report), unfolding(rap_grammar_scripts::specs::Consts::const_params))]
 fn const_params<G: Grammar>(p: &mut Parser<'_>, g: &G, is_const: bool) -> Result<(), NoMemory>
     requires behind { Behind G.valid G.left g.now (state p.old) }
-    ensures grew { OnOk result (Grew (state p.old) (state p.new) 1) }
     ensures script { OnOk result
         (Does (G.left g.now) (script.const_params is_const) something (state p.old) (state p.new)) }
 {
@@ -110,7 +104,6 @@ fn const_params<G: Grammar>(p: &mut Parser<'_>, g: &G, is_const: bool) -> Result
 #[tactic(auto, unfolding(rap_grammar_scripts::specs::Consts::const_type, rap_grammar_scripts::specs::Consts::missing_const_type))]
 fn const_type<G: Grammar>(p: &mut Parser<'_>, g: &G, is_const: bool) -> Result<(), NoMemory>
     requires within { Within G.valid G.left g.now (state p.old) }
-    ensures grew { OnOk result (Grew (state p.old) (state p.new) 1) }
     ensures script { OnOk result
         (Does (G.left g.now) (script.const_type is_const) something (state p.old) (state p.new)) }
 {
@@ -130,7 +123,6 @@ fn const_type<G: Grammar>(p: &mut Parser<'_>, g: &G, is_const: bool) -> Result<(
 #[tactic(auto, unfolding(rap_grammar_scripts::specs::Consts::const_value))]
 fn const_value<G: Grammar>(p: &mut Parser<'_>, g: &G) -> Result<(), NoMemory>
     requires within { Within G.valid G.left g.now (state p.old) }
-    ensures grew { OnOk result (Grew (state p.old) (state p.new) 0) }
     ensures script { OnOk result (Does (G.left g.now) script.const_value something (state p.old) (state p.new)) }
 {
     if p.eat(T![=])? {
@@ -143,7 +135,6 @@ fn const_value<G: Grammar>(p: &mut Parser<'_>, g: &G) -> Result<(), NoMemory>
 #[tactic(auto, unfolding(rap_grammar_scripts::specs::Consts::const_where))]
 fn const_where<G: Grammar>(p: &mut Parser<'_>, g: &G, is_const: bool) -> Result<(), NoMemory>
     requires behind { Behind G.valid G.left g.now (state p.old) }
-    ensures grew { OnOk result (Grew (state p.old) (state p.new) 0) }
     ensures script { OnOk result
         (Does (G.left g.now) (script.const_where is_const) something (state p.old) (state p.new)) }
 {

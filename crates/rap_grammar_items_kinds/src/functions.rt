@@ -4,9 +4,9 @@ ghost use Rattle.std.specs.Prelude.{ℕ, ◌≡◌, ◌≢◌, ◌<◌, ◌≤�
 ghost use Rattle.rap_base.specs.TokenKind.{FN_KW, EOF};
 ghost use Rattle.rap_events.specs.State.{state, next};
 ghost use Rattle.rap_grammar_scripts.specs.Functions as script;
-ghost use Rattle.rap_grammar_frame.specs.Grew.{Within, Behind, Took, Grew, Ended};
+ghost use Rattle.rap_grammar_frame.specs.Grew.{Within, Behind};
 ghost use Rattle.rap_grammar_scripts.specs.Exec.{Does};
-ghost use Rattle.rap_grammar_frame.specs.Room.{item_room, recovery_events};
+ghost use Rattle.rap_grammar_facts.specs.Alone.{DoesAlone};
 ghost use Rattle.rap_grammar_scripts.specs.Script.{something};
 
 use rap_base::T;
@@ -22,12 +22,11 @@ use rap_grammar_frame::through_knot::{
 use rap_grammar_params::params::param_list_fn_def;
 
 /// A function from its keyword on, as `fn f(a: b) -> c {}`.
-#[tactic(auto, unfolding(rap_events::specs::Machine::top, rap_grammar_scripts::specs::Functions::fn_))]
+#[tactic(auto, using(rap_grammar_frame::proofs::Done::less_left, rap_grammar_frame::proofs::Done::marker_kept, rap_grammar_facts::proofs::Functions::level_signature, rap_grammar_facts::proofs::Functions::level_fn_body), unfolding(rap_grammar_scripts::specs::Functions::fn_))]
 pub fn fn_<G: Grammar>(p: &mut Parser<'_>, g: &G, m: Marker) -> Result<(), NoMemory>
     requires within { Within G.valid G.left g.now (state p.old) }
     requires newest { (state p.old).marker ≡ Some m.pos.value }
     requires here { next (state p.old) ≡ FN_KW }
-    ensures ended { OnOk result (Ended (state p.old) (state p.new) item_room) }
     ensures script { OnOk result (Does (G.left g.now) script.fn_ something (state p.old) (state p.new)) }
 {
     p.bump(T![fn])?;
@@ -40,10 +39,9 @@ pub fn fn_<G: Grammar>(p: &mut Parser<'_>, g: &G, m: Marker) -> Result<(), NoMem
 }
 
 /// The parameters of a function, its return type and its `where`, as `(a: b) -> c where d: E`.
-#[tactic(auto, unfolding(rap_grammar_scripts::specs::Functions::signature))]
+#[tactic(auto, using(rap_grammar_frame::proofs::Done::less_left, rap_grammar_facts::proofs::Alone::alone_less_left), unfolding(rap_grammar_scripts::specs::Functions::signature))]
 fn signature<G: Grammar>(p: &mut Parser<'_>, g: &G) -> Result<(), NoMemory>
     requires behind { Behind G.valid G.left g.now (state p.old) }
-    ensures grew { OnOk result (Grew (state p.old) (state p.new) 1) }
     ensures script { OnOk result (Does (G.left g.now) script.signature something (state p.old) (state p.new)) }
 {
     fn_params(p, g)?;
@@ -54,10 +52,9 @@ fn signature<G: Grammar>(p: &mut Parser<'_>, g: &G) -> Result<(), NoMemory>
 }
 
 /// The parameters of a function, or the message that they are missing.
-#[tactic(auto, using(rap_grammar_params::proofs::Lines::fn_def_took), unfolding(rap_grammar_scripts::specs::Functions::fn_params))]
+#[tactic(auto, unfolding(rap_grammar_scripts::specs::Functions::fn_params))]
 fn fn_params<G: Grammar>(p: &mut Parser<'_>, g: &G) -> Result<(), NoMemory>
     requires within { Within G.valid G.left g.now (state p.old) }
-    ensures grew { OnOk result (Grew (state p.old) (state p.new) 1) }
     ensures script { OnOk result (Does (G.left g.now) script.fn_params something (state p.old) (state p.new)) }
 {
     if p.at(T!['(']) {
@@ -72,7 +69,6 @@ fn fn_params<G: Grammar>(p: &mut Parser<'_>, g: &G) -> Result<(), NoMemory>
 #[tactic(auto, unfolding(rap_grammar_scripts::specs::Functions::fn_ret_type))]
 fn fn_ret_type<G: Grammar>(p: &mut Parser<'_>, g: &G) -> Result<(), NoMemory>
     requires behind { Behind G.valid G.left g.now (state p.old) }
-    ensures grew { OnOk result (Grew (state p.old) (state p.new) 0) }
     ensures script { OnOk result (Does (G.left g.now) script.fn_ret_type something (state p.old) (state p.new)) }
 {
     if opt_ret_type(p, g)? {
@@ -92,9 +88,7 @@ fn is_unbalanced(kind: SyntaxKind) -> bool
 
 /// Brackets that close nothing, each in an `ERROR`.
 fn unbalanced_brackets(p: &mut Parser<'_>) -> Result<(), NoMemory>
-    ensures grew { OnOk result (Grew (state p.old) (state p.new) 0) }
-    ensures script { OnOk result
-        ((depth : ℕ) → Does depth script.unbalanced_brackets something (state p.old) (state p.new)) }
+    ensures script { OnOk result (DoesAlone script.unbalanced_brackets something (state p.old) (state p.new)) }
 {
     'brackets: while is_unbalanced(p.current()) {
         p.err_and_bump("expected a curly brace")?;
@@ -106,7 +100,6 @@ fn unbalanced_brackets(p: &mut Parser<'_>) -> Result<(), NoMemory>
 #[tactic(auto, unfolding(rap_grammar_scripts::specs::Functions::fn_body))]
 fn fn_body<G: Grammar>(p: &mut Parser<'_>, g: &G) -> Result<(), NoMemory>
     requires within { Within G.valid G.left g.now (state p.old) }
-    ensures grew { OnOk result (Grew (state p.old) (state p.new) recovery_events) }
     ensures script { OnOk result (Does (G.left g.now) script.fn_body something (state p.old) (state p.new)) }
 {
     if p.eat(T![;])? {

@@ -3,10 +3,8 @@
 ghost use Rattle.std.specs.Prelude.{ℕ, ◌≡◌, ◌≢◌, ◌<◌, ◌≤◌, IfOk, OnOk, Some, None, true, ◌⊎◌};
 ghost use Rattle.rap_base.specs.TokenKind.{BANG, MACRO_KW, MACRO_RULES_KW};
 ghost use Rattle.rap_events.specs.State.{state, next, ReadsAs};
-ghost use Rattle.rap_grammar_frame.specs.Grew.{Took, Grew, Ended};
-ghost use Rattle.rap_grammar_scripts.specs.Exec.{Does};
+ghost use Rattle.rap_grammar_facts.specs.Alone.{DoesDeep};
 ghost use Rattle.rap_grammar_scripts.specs.Macros as script;
-ghost use Rattle.rap_grammar_frame.specs.Room.{item_room};
 ghost use Rattle.rap_grammar_scripts.specs.Script.{something};
 
 use rap_base::T;
@@ -18,14 +16,11 @@ use rap_grammar_frame::names::name;
 use rap_grammar_frame::token_tree::{is_bracket, macro_call_after_excl, token_tree};
 
 /// A macro by its rules, as `macro_rules! a { () => {} }`.
-#[tactic(auto, unfolding(rap_events::specs::Machine::top))]
+#[tactic(auto, using(rap_grammar_facts::proofs::Alone::deep_marker_kept, rap_grammar_facts::proofs::Macros::level_rules_in_brackets))]
 pub fn macro_rules(p: &mut Parser<'_>, m: Marker) -> Result<(), NoMemory>
     requires newest { (state p.old).marker ≡ Some m.pos.value }
     requires here { ReadsAs (state p.old) MACRO_RULES_KW }
-    ensures ended { OnOk result (Ended (state p.old) (state p.new) item_room) }
-    ensures script { OnOk result
-        ((depth : ℕ) → (state p.old).left ≤ depth → Does depth script.macro_rules something (state p.old)
-        (state p.new)) }
+    ensures script { OnOk result (DoesDeep script.macro_rules something (state p.old) (state p.new)) }
 {
     p.bump_remap(T![macro_rules])?;
     p.expect(T![!])?;
@@ -38,10 +33,7 @@ pub fn macro_rules(p: &mut Parser<'_>, m: Marker) -> Result<(), NoMemory>
 /// The rules of a macro in their brackets, with a semicolon after them if these are no braces.
 #[tactic(auto, unfolding(rap_grammar_scripts::specs::Macros::rules_in_brackets))]
 fn rules_in_brackets(p: &mut Parser<'_>) -> Result<(), NoMemory>
-    ensures grew { OnOk result (Grew (state p.old) (state p.new) 1) }
-    ensures script { OnOk result
-        ((depth : ℕ) → (state p.old).left ≤ depth → Does depth script.rules_in_brackets something (state p.old)
-        (state p.new)) }
+    ensures script { OnOk result (DoesDeep script.rules_in_brackets something (state p.old) (state p.new)) }
 {
     let kind = p.current();
     if matches!(kind, T!['['] | T!['(']) {
@@ -58,13 +50,11 @@ fn rules_in_brackets(p: &mut Parser<'_>) -> Result<(), NoMemory>
 }
 
 /// A macro from its keyword on, as `macro a($b:ident) {}`.
-#[tactic(auto, unfolding(rap_events::specs::Machine::top, rap_grammar_scripts::specs::Macros::macro_def))]
+#[tactic(auto, using(rap_grammar_facts::proofs::Alone::deep_marker_kept, rap_grammar_facts::proofs::Macros::level_macro_def_tokens), unfolding(rap_grammar_scripts::specs::Macros::macro_def))]
 pub fn macro_def(p: &mut Parser<'_>, m: Marker) -> Result<(), NoMemory>
     requires newest { (state p.old).marker ≡ Some m.pos.value }
     requires here { next (state p.old) ≡ MACRO_KW }
-    ensures ended { OnOk result (Ended (state p.old) (state p.new) item_room) }
-    ensures script { OnOk result
-        ((depth : ℕ) → (state p.old).left ≤ depth → Does depth script.macro_def something (state p.old) (state p.new)) }
+    ensures script { OnOk result (DoesDeep script.macro_def something (state p.old) (state p.new)) }
 {
     p.bump(T![macro])?;
     item_name(p)?;
@@ -76,10 +66,7 @@ pub fn macro_def(p: &mut Parser<'_>, m: Marker) -> Result<(), NoMemory>
 /// What stands after a macro's name, as `{ () => {} }` and `($a:ident) {}`.
 #[tactic(auto, unfolding(rap_grammar_scripts::specs::Macros::macro_def_tokens))]
 fn macro_def_tokens(p: &mut Parser<'_>) -> Result<(), NoMemory>
-    ensures grew { OnOk result (Grew (state p.old) (state p.new) 1) }
-    ensures script { OnOk result
-        ((depth : ℕ) → (state p.old).left ≤ depth → Does depth script.macro_def_tokens something (state p.old)
-        (state p.new)) }
+    ensures script { OnOk result (DoesDeep script.macro_def_tokens something (state p.old) (state p.new)) }
 {
     if p.at(T!['{']) {
         token_tree(p)?;
@@ -97,10 +84,7 @@ fn macro_def_tokens(p: &mut Parser<'_>) -> Result<(), NoMemory>
 /// The body of a macro, after its parameters.
 #[tactic(auto, unfolding(rap_grammar_scripts::specs::Macros::macro_def_body))]
 fn macro_def_body(p: &mut Parser<'_>) -> Result<(), NoMemory>
-    ensures grew { OnOk result (Grew (state p.old) (state p.new) 1) }
-    ensures script { OnOk result
-        ((depth : ℕ) → (state p.old).left ≤ depth → Does depth script.macro_def_body something (state p.old)
-        (state p.new)) }
+    ensures script { OnOk result (DoesDeep script.macro_def_body something (state p.old) (state p.new)) }
 {
     if is_bracket(p.current()) {
         token_tree(p)?;
@@ -111,14 +95,11 @@ fn macro_def_body(p: &mut Parser<'_>) -> Result<(), NoMemory>
 }
 
 /// A macro call after its path in the place of an item, as `!{}` and `!();`.
-#[tactic(auto, unfolding(rap_events::specs::Machine::top, rap_grammar_scripts::specs::Macros::macro_call))]
+#[tactic(auto, unfolding(rap_grammar_scripts::specs::Macros::macro_call))]
 pub fn macro_call(p: &mut Parser<'_>, m: Marker) -> Result<(), NoMemory>
     requires newest { (state p.old).marker ≡ Some m.pos.value }
     requires here { next (state p.old) ≡ BANG }
-    ensures ended { OnOk result (Ended (state p.old) (state p.new) item_room) }
-    ensures script { OnOk result
-        ((depth : ℕ) → (state p.old).left ≤ depth → Does depth script.macro_call something (state p.old)
-        (state p.new)) }
+    ensures script { OnOk result (DoesDeep script.macro_call something (state p.old) (state p.new)) }
 {
     let like = macro_call_after_excl(p)?;
     if like.is_block() {

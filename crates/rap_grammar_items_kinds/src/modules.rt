@@ -5,10 +5,10 @@ ghost use Rattle.rap_base.specs.NodeKind.{ITEM_LIST, EXTERN_ITEM_LIST};
 ghost use Rattle.rap_base.specs.TokenKind.{EOF, L_CURLY, R_CURLY, CRATE_KW, EXTERN_KW, MOD_KW, TYPE_KW};
 ghost use Rattle.rap_events.specs.Forest.{node};
 ghost use Rattle.rap_events.specs.State.{state, last_children, next, NthAt};
-ghost use Rattle.rap_grammar_frame.specs.Grew.{Within, Behind, Took, Grew, Ended};
+ghost use Rattle.rap_grammar_frame.specs.Grew.{Within, Behind};
 ghost use Rattle.rap_grammar_scripts.specs.Modules as script;
 ghost use Rattle.rap_grammar_scripts.specs.Exec.{Does};
-ghost use Rattle.rap_grammar_frame.specs.Room.{item_room, list_room};
+ghost use Rattle.rap_grammar_facts.specs.Alone.{DoesAlone};
 ghost use Rattle.rap_grammar_scripts.specs.Script.{something};
 ghost use Rattle.rap_grammar_scripts.specs.Test.{holds};
 
@@ -24,13 +24,12 @@ use rap_grammar_frame::through_knot::{bounds, opt_generic_param_list, opt_where_
 use rap_grammar_scripts::rule::Rule;
 
 /// A crate's name, as `extern crate a as b;`.
-#[tactic(auto, unfolding(rap_events::specs::Machine::top, rap_grammar_scripts::specs::Modules::extern_crate))]
+#[tactic(auto, unfolding(rap_grammar_scripts::specs::Modules::extern_crate))]
 pub fn extern_crate(p: &mut Parser<'_>, m: Marker) -> Result<(), NoMemory>
     requires newest { (state p.old).marker ≡ Some m.pos.value }
     requires here { next (state p.old) ≡ EXTERN_KW }
     requires more { NthAt (state p.old) 1 CRATE_KW }
-    ensures ended { OnOk result (Ended (state p.old) (state p.new) item_room) }
-    ensures script { OnOk result ((depth : ℕ) → Does depth script.extern_crate something (state p.old) (state p.new)) }
+    ensures script { OnOk result (DoesAlone script.extern_crate something (state p.old) (state p.new)) }
 {
     p.bump(T![extern])?;
     p.bump(T![crate])?;
@@ -49,7 +48,6 @@ pub fn mod_contents<G: Grammar>(
     stop_on_r_curly: bool,
 ) -> Result<(), NoMemory>
     requires behind { Behind G.valid G.left g.now (state p.old) }
-    ensures grew { OnOk result (Grew (state p.old) (state p.new) 0) }
     ensures script { OnOk result
         (Does (G.left g.now) (script.mod_contents stop_on_r_curly) something (state p.old) (state p.new)) }
 {
@@ -67,10 +65,9 @@ fn ends_items(p: &Parser<'_>, stop_on_r_curly: bool) -> bool
 }
 
 /// Items one after another.
-#[tactic(auto, using(rap_grammar_frame::proofs::Loops::turns), unfolding(rap_grammar_scripts::specs::Modules::items))]
+#[tactic(auto, using(rap_grammar_frame::proofs::Done::less_left, rap_grammar_frame::proofs::Loops::turns), unfolding(rap_grammar_scripts::specs::Modules::items))]
 fn items<G: Grammar>(p: &mut Parser<'_>, g: &G, stop_on_r_curly: bool) -> Result<(), NoMemory>
     requires behind { Behind G.valid G.left g.now (state p.old) }
-    ensures grew { OnOk result (Grew (state p.old) (state p.new) 0) }
     ensures script { OnOk result
         (Does (G.left g.now) (script.items stop_on_r_curly) something (state p.old) (state p.new)) }
 {
@@ -89,11 +86,10 @@ fn items<G: Grammar>(p: &mut Parser<'_>, g: &G, stop_on_r_curly: bool) -> Result
 }
 
 /// The items of a module in their braces.
-#[tactic(auto, unfolding(rap_grammar_scripts::specs::Modules::item_list))]
+#[tactic(auto, using(rap_grammar_frame::proofs::Done::marker_kept, rap_grammar_frame::proofs::Ended::below_kept, rap_grammar_facts::proofs::Modules::level_mod_contents), unfolding(rap_grammar_scripts::specs::Modules::item_list))]
 pub fn item_list<G: Grammar>(p: &mut Parser<'_>, g: &G) -> Result<(), NoMemory>
     requires within { Within G.valid G.left g.now (state p.old) }
     requires here { next (state p.old) ≡ L_CURLY }
-    ensures took { OnOk result (Took (state p.old) (state p.new) list_room) }
     ensures one { OnOk result
         ((state p.new).forest ≡ node (state p.old).forest ITEM_LIST (last_children (state p.new).forest)) }
     ensures script { OnOk result (Does (G.left g.now) script.item_list something (state p.old) (state p.new)) }
@@ -107,11 +103,10 @@ pub fn item_list<G: Grammar>(p: &mut Parser<'_>, g: &G) -> Result<(), NoMemory>
 }
 
 /// The items of an `extern` block in their braces.
-#[tactic(auto, unfolding(rap_grammar_scripts::specs::Modules::extern_item_list))]
+#[tactic(auto, using(rap_grammar_frame::proofs::Done::marker_kept, rap_grammar_frame::proofs::Ended::below_kept, rap_grammar_facts::proofs::Modules::level_mod_contents), unfolding(rap_grammar_scripts::specs::Modules::extern_item_list))]
 pub fn extern_item_list<G: Grammar>(p: &mut Parser<'_>, g: &G) -> Result<(), NoMemory>
     requires within { Within G.valid G.left g.now (state p.old) }
     requires here { next (state p.old) ≡ L_CURLY }
-    ensures took { OnOk result (Took (state p.old) (state p.new) list_room) }
     ensures one { OnOk result
         ((state p.new).forest ≡ node (state p.old).forest EXTERN_ITEM_LIST (last_children (state p.new).forest)) }
     ensures script { OnOk result (Does (G.left g.now) script.extern_item_list something (state p.old) (state p.new)) }
@@ -125,12 +120,11 @@ pub fn extern_item_list<G: Grammar>(p: &mut Parser<'_>, g: &G) -> Result<(), NoM
 }
 
 /// A module from its keyword on, as `mod a;` and `mod a {}`.
-#[tactic(auto, unfolding(rap_events::specs::Machine::top, rap_grammar_scripts::specs::Modules::mod_item))]
+#[tactic(auto, using(rap_grammar_frame::proofs::Done::marker_kept, rap_grammar_facts::proofs::Modules::level_mod_body), unfolding(rap_grammar_scripts::specs::Modules::mod_item))]
 pub fn mod_item<G: Grammar>(p: &mut Parser<'_>, g: &G, m: Marker) -> Result<(), NoMemory>
     requires within { Within G.valid G.left g.now (state p.old) }
     requires newest { (state p.old).marker ≡ Some m.pos.value }
     requires here { next (state p.old) ≡ MOD_KW }
-    ensures ended { OnOk result (Ended (state p.old) (state p.new) item_room) }
     ensures script { OnOk result (Does (G.left g.now) script.mod_item something (state p.old) (state p.new)) }
 {
     p.bump(T![mod])?;
@@ -144,7 +138,6 @@ pub fn mod_item<G: Grammar>(p: &mut Parser<'_>, g: &G, m: Marker) -> Result<(), 
 #[tactic(auto, unfolding(rap_grammar_scripts::specs::Modules::mod_body))]
 fn mod_body<G: Grammar>(p: &mut Parser<'_>, g: &G) -> Result<(), NoMemory>
     requires within { Within G.valid G.left g.now (state p.old) }
-    ensures grew { OnOk result (Grew (state p.old) (state p.new) 1) }
     ensures script { OnOk result (Does (G.left g.now) script.mod_body something (state p.old) (state p.new)) }
 {
     if p.at(T!['{']) {
@@ -164,7 +157,6 @@ pub fn type_item<G: Grammar>(p: &mut Parser<'_>, g: &G, m: Marker) -> Result<(),
     requires within { Within G.valid G.left g.now (state p.old) }
     requires newest { (state p.old).marker ≡ Some m.pos.value }
     requires here { next (state p.old) ≡ TYPE_KW }
-    ensures ended { OnOk result (Ended (state p.old) (state p.new) item_room) }
     ensures script { OnOk result (Does (G.left g.now) script.type_item something (state p.old) (state p.new)) }
 {
     if p.nth_at(1, T![const]) {
@@ -176,12 +168,11 @@ pub fn type_item<G: Grammar>(p: &mut Parser<'_>, g: &G, m: Marker) -> Result<(),
 }
 
 /// A type alias, as `type A<T>: B = c where T: D;`.
-#[tactic(auto, unfolding(rap_events::specs::Machine::top, rap_grammar_scripts::specs::Modules::type_alias))]
+#[tactic(auto, using(rap_grammar_frame::proofs::Done::less_left), unfolding(rap_grammar_scripts::specs::Modules::type_alias))]
 fn type_alias<G: Grammar>(p: &mut Parser<'_>, g: &G, m: Marker) -> Result<(), NoMemory>
     requires within { Within G.valid G.left g.now (state p.old) }
     requires newest { (state p.old).marker ≡ Some m.pos.value }
     requires here { next (state p.old) ≡ TYPE_KW }
-    ensures ended { OnOk result (Ended (state p.old) (state p.new) item_room) }
     ensures script { OnOk result (Does (G.left g.now) script.type_alias something (state p.old) (state p.new)) }
 {
     p.bump(T![type])?;
@@ -200,7 +191,6 @@ fn type_alias<G: Grammar>(p: &mut Parser<'_>, g: &G, m: Marker) -> Result<(), No
 #[tactic(auto, unfolding(rap_grammar_scripts::specs::Modules::alias_bounds))]
 fn alias_bounds<G: Grammar>(p: &mut Parser<'_>, g: &G) -> Result<(), NoMemory>
     requires within { Within G.valid G.left g.now (state p.old) }
-    ensures grew { OnOk result (Grew (state p.old) (state p.new) 0) }
     ensures script { OnOk result (Does (G.left g.now) script.alias_bounds something (state p.old) (state p.new)) }
 {
     if !p.at(T![:]) {
@@ -214,7 +204,6 @@ fn alias_bounds<G: Grammar>(p: &mut Parser<'_>, g: &G) -> Result<(), NoMemory>
 #[tactic(auto, unfolding(rap_grammar_scripts::specs::Modules::aliased_type))]
 fn aliased_type<G: Grammar>(p: &mut Parser<'_>, g: &G) -> Result<(), NoMemory>
     requires within { Within G.valid G.left g.now (state p.old) }
-    ensures grew { OnOk result (Grew (state p.old) (state p.new) 0) }
     ensures script { OnOk result (Does (G.left g.now) script.aliased_type something (state p.old) (state p.new)) }
 {
     if !p.eat(T![=])? {

@@ -1,12 +1,12 @@
 //! Traits and implementations.
 ghost use Rattle.std.specs.Prelude.{ℕ, ◌≡◌, ◌≢◌, ◌<◌, ◌≤◌, OnOk, Some, true};
 ghost use Rattle.rap_base.specs.NodeKind.{ASSOC_ITEM_LIST};
-ghost use Rattle.rap_base.specs.TokenKind.{EOF, L_CURLY, R_CURLY, BANG, TRAIT_KW, IMPL_KW};
+ghost use Rattle.rap_base.specs.TokenKind.{EOF, L_CURLY, BANG, TRAIT_KW, IMPL_KW};
 ghost use Rattle.rap_events.specs.Forest.{node};
 ghost use Rattle.rap_events.specs.State.{state, last_children, next};
-ghost use Rattle.rap_grammar_frame.specs.Grew.{Within, Behind, Took, Grew, Ended};
+ghost use Rattle.rap_grammar_frame.specs.Grew.{Within, Behind};
 ghost use Rattle.rap_grammar_scripts.specs.Exec.{Does};
-ghost use Rattle.rap_grammar_frame.specs.Room.{item_room, list_room, statement_room};
+ghost use Rattle.rap_grammar_facts.specs.Alone.{DoesAlone};
 ghost use Rattle.rap_grammar_scripts.specs.Script.{something};
 ghost use Rattle.rap_grammar_scripts.specs.Test.{holds};
 ghost use Rattle.rap_grammar_scripts.specs.Traits as script;
@@ -25,12 +25,11 @@ use rap_grammar_frame::through_knot::{
 use rap_grammar_scripts::rule::Rule;
 
 /// A trait from its keyword on, as `trait A {}`.
-#[tactic(auto, unfolding(rap_events::specs::Machine::top, rap_grammar_scripts::specs::Traits::trait_))]
+#[tactic(auto, using(rap_grammar_frame::proofs::Done::marker_kept, rap_grammar_facts::proofs::Traits::level_trait_body), unfolding(rap_grammar_scripts::specs::Traits::trait_))]
 pub fn trait_<G: Grammar>(p: &mut Parser<'_>, g: &G, m: Marker) -> Result<(), NoMemory>
     requires within { Within G.valid G.left g.now (state p.old) }
     requires newest { (state p.old).marker ≡ Some m.pos.value }
     requires here { next (state p.old) ≡ TRAIT_KW }
-    ensures ended { OnOk result (Ended (state p.old) (state p.new) item_room) }
     ensures script { OnOk result (Does (G.left g.now) script.trait_ something (state p.old) (state p.new)) }
 {
     p.bump(T![trait])?;
@@ -42,10 +41,9 @@ pub fn trait_<G: Grammar>(p: &mut Parser<'_>, g: &G, m: Marker) -> Result<(), No
 }
 
 /// What stands after a trait's name and parameters.
-#[tactic(auto, unfolding(rap_grammar_scripts::specs::Traits::trait_body))]
+#[tactic(auto, using(rap_grammar_frame::proofs::Done::less_left), unfolding(rap_grammar_scripts::specs::Traits::trait_body))]
 fn trait_body<G: Grammar>(p: &mut Parser<'_>, g: &G) -> Result<(), NoMemory>
     requires behind { Behind G.valid G.left g.now (state p.old) }
-    ensures grew { OnOk result (Grew (state p.old) (state p.new) 1) }
     ensures script { OnOk result (Does (G.left g.now) script.trait_body something (state p.old) (state p.new)) }
 {
     if p.eat(T![=])? {
@@ -62,7 +60,6 @@ fn trait_body<G: Grammar>(p: &mut Parser<'_>, g: &G) -> Result<(), NoMemory>
 #[tactic(auto, unfolding(rap_grammar_scripts::specs::Traits::trait_alias))]
 fn trait_alias<G: Grammar>(p: &mut Parser<'_>, g: &G) -> Result<(), NoMemory>
     requires behind { Behind G.valid G.left g.now (state p.old) }
-    ensures grew { OnOk result (Grew (state p.old) (state p.new) 17) }
     ensures script { OnOk result (Does (G.left g.now) script.trait_alias something (state p.old) (state p.new)) }
 {
     bounds_without_colon(p, g)?;
@@ -75,7 +72,6 @@ fn trait_alias<G: Grammar>(p: &mut Parser<'_>, g: &G) -> Result<(), NoMemory>
 #[tactic(auto, unfolding(rap_grammar_scripts::specs::Traits::opt_bounds))]
 fn opt_bounds<G: Grammar>(p: &mut Parser<'_>, g: &G) -> Result<(), NoMemory>
     requires within { Within G.valid G.left g.now (state p.old) }
-    ensures grew { OnOk result (Grew (state p.old) (state p.new) 0) }
     ensures script { OnOk result (Does (G.left g.now) script.opt_bounds something (state p.old) (state p.new)) }
 {
     if p.at(T![:]) {
@@ -85,12 +81,11 @@ fn opt_bounds<G: Grammar>(p: &mut Parser<'_>, g: &G) -> Result<(), NoMemory>
 }
 
 /// An implementation from its keyword on, as `impl A for b {}`.
-#[tactic(auto, unfolding(rap_events::specs::Machine::top, rap_grammar_scripts::specs::Traits::impl_))]
+#[tactic(auto, using(rap_grammar_frame::proofs::Done::less_left, rap_grammar_facts::proofs::Alone::alone_less_left), unfolding(rap_grammar_scripts::specs::Traits::impl_))]
 pub fn impl_<G: Grammar>(p: &mut Parser<'_>, g: &G, m: Marker) -> Result<(), NoMemory>
     requires within { Within G.valid G.left g.now (state p.old) }
     requires newest { (state p.old).marker ≡ Some m.pos.value }
     requires here { next (state p.old) ≡ IMPL_KW }
-    ensures ended { OnOk result (Ended (state p.old) (state p.new) item_room) }
     ensures script { OnOk result (Does (G.left g.now) script.impl_ something (state p.old) (state p.new)) }
 {
     p.bump(T![impl])?;
@@ -108,7 +103,6 @@ pub fn impl_<G: Grammar>(p: &mut Parser<'_>, g: &G, m: Marker) -> Result<(), NoM
 #[tactic(auto, unfolding(rap_grammar_scripts::specs::Traits::impl_params))]
 fn impl_params<G: Grammar>(p: &mut Parser<'_>, g: &G) -> Result<(), NoMemory>
     requires behind { Behind G.valid G.left g.now (state p.old) }
-    ensures grew { OnOk result (Grew (state p.old) (state p.new) 0) }
     ensures script { OnOk result (Does (G.left g.now) script.impl_params something (state p.old) (state p.new)) }
 {
     if is_impl_params_start(p) {
@@ -137,8 +131,7 @@ fn not_a_qualified_path(p: &Parser<'_>) -> bool
 /// A `!` before a trait, as in `impl !A for b {}`, if there is one.
 #[tactic(auto, unfolding(rap_grammar_scripts::specs::Traits::opt_negative))]
 fn opt_negative(p: &mut Parser<'_>) -> Result<(), NoMemory>
-    ensures grew { OnOk result (Grew (state p.old) (state p.new) 0) }
-    ensures script { OnOk result ((depth : ℕ) → Does depth script.opt_negative something (state p.old) (state p.new)) }
+    ensures script { OnOk result (DoesAlone script.opt_negative something (state p.old) (state p.new)) }
 {
     if is_negative_start(p) {
         p.bump(T![!])?;
@@ -155,10 +148,9 @@ fn is_negative_start(p: &Parser<'_>) -> bool
 }
 
 /// The type of an implementation, with the trait before it.
-#[tactic(auto, unfolding(rap_grammar_scripts::specs::Traits::impl_types))]
+#[tactic(auto, using(rap_grammar_frame::proofs::Done::less_left), unfolding(rap_grammar_scripts::specs::Traits::impl_types))]
 fn impl_types<G: Grammar>(p: &mut Parser<'_>, g: &G) -> Result<(), NoMemory>
     requires behind { Behind G.valid G.left g.now (state p.old) }
-    ensures grew { OnOk result (Grew (state p.old) (state p.new) 8) }
     ensures script { OnOk result (Does (G.left g.now) script.impl_types something (state p.old) (state p.new)) }
 {
     impl_type(p, g)?;
@@ -172,7 +164,6 @@ fn impl_types<G: Grammar>(p: &mut Parser<'_>, g: &G) -> Result<(), NoMemory>
 #[tactic(auto, unfolding(rap_grammar_scripts::specs::Traits::impl_type))]
 pub fn impl_type<G: Grammar>(p: &mut Parser<'_>, g: &G) -> Result<(), NoMemory>
     requires behind { Behind G.valid G.left g.now (state p.old) }
-    ensures grew { OnOk result (Grew (state p.old) (state p.new) 8) }
     ensures script { OnOk result (Does (G.left g.now) script.impl_type something (state p.old) (state p.new)) }
 {
     if p.at(T![impl]) {
@@ -187,7 +178,6 @@ pub fn impl_type<G: Grammar>(p: &mut Parser<'_>, g: &G) -> Result<(), NoMemory>
 #[tactic(auto, unfolding(rap_grammar_scripts::specs::Traits::expect_assoc_item_list))]
 fn expect_assoc_item_list<G: Grammar>(p: &mut Parser<'_>, g: &G) -> Result<(), NoMemory>
     requires within { Within G.valid G.left g.now (state p.old) }
-    ensures grew { OnOk result (Grew (state p.old) (state p.new) 1) }
     ensures script { OnOk result
         (Does (G.left g.now) script.expect_assoc_item_list something (state p.old) (state p.new)) }
 {
@@ -204,7 +194,6 @@ fn expect_assoc_item_list<G: Grammar>(p: &mut Parser<'_>, g: &G) -> Result<(), N
 pub fn assoc_item_list<G: Grammar>(p: &mut Parser<'_>, g: &G) -> Result<(), NoMemory>
     requires within { Within G.valid G.left g.now (state p.old) }
     requires here { next (state p.old) ≡ L_CURLY }
-    ensures took { OnOk result (Took (state p.old) (state p.new) list_room) }
     ensures one { OnOk result
         ((state p.new).forest ≡ node (state p.old).forest ASSOC_ITEM_LIST (last_children (state p.new).forest)) }
     ensures script { OnOk result (Does (G.left g.now) script.assoc_item_list something (state p.old) (state p.new)) }
@@ -219,10 +208,9 @@ pub fn assoc_item_list<G: Grammar>(p: &mut Parser<'_>, g: &G) -> Result<(), NoMe
 }
 
 /// Items up to the brace that closes their list.
-#[tactic(auto, using(rap_grammar_frame::proofs::Loops::turns), unfolding(rap_grammar_scripts::specs::Traits::assoc_items))]
+#[tactic(auto, using(rap_grammar_frame::proofs::Done::less_left, rap_grammar_facts::proofs::Traits::inside_assoc_item, rap_grammar_frame::proofs::Loops::turns), unfolding(rap_grammar_scripts::specs::Traits::assoc_items))]
 fn assoc_items<G: Grammar>(p: &mut Parser<'_>, g: &G) -> Result<(), NoMemory>
     requires behind { Behind G.valid G.left g.now (state p.old) }
-    ensures grew { OnOk result (Grew (state p.old) (state p.new) 0) }
     ensures script { OnOk result (Does (G.left g.now) script.assoc_items something (state p.old) (state p.new)) }
 {
     'items: while !p.at(SyntaxKind::EOF) && !p.at(T!['}']) {
@@ -235,9 +223,6 @@ fn assoc_items<G: Grammar>(p: &mut Parser<'_>, g: &G) -> Result<(), NoMemory>
 #[tactic(auto, unfolding(rap_grammar_scripts::specs::Traits::assoc_item, rap_grammar_scripts::specs::ThroughKnot::item_or_macro))]
 fn assoc_item<G: Grammar>(p: &mut Parser<'_>, g: &G) -> Result<(), NoMemory>
     requires behind { Behind G.valid G.left g.now (state p.old) }
-    requires more { next (state p.old) ≢ EOF }
-    requires inside { next (state p.old) ≢ R_CURLY }
-    ensures took { OnOk result (Took (state p.old) (state p.new) statement_room) }
     ensures script { OnOk result (Does (G.left g.now) script.assoc_item something (state p.old) (state p.new)) }
 {
     if p.at(T!['{']) {

@@ -6,9 +6,8 @@ ghost use Rattle.rap_base.specs.TokenSet.{member};
 ghost use Rattle.rap_events.specs.Composite.{is_at};
 ghost use Rattle.rap_events.specs.Forest.{node};
 ghost use Rattle.rap_events.specs.State.{state, last_children, next};
-ghost use Rattle.rap_grammar_frame.specs.Grew.{Within, Took, Grew, Ended};
+ghost use Rattle.rap_grammar_frame.specs.Grew.{Within};
 ghost use Rattle.rap_grammar_scripts.specs.Exec.{Does};
-ghost use Rattle.rap_grammar_frame.specs.Room.{item_room, list_room, recovery_events, use_list_room};
 ghost use Rattle.rap_grammar_scripts.specs.Script.{something};
 ghost use Rattle.rap_grammar_scripts.specs.Test.{holds};
 ghost use Rattle.rap_grammar_scripts.specs.UseItem as script;
@@ -28,12 +27,11 @@ use rap_grammar_paths::paths::use_path;
 use rap_grammar_scripts::rule::Rule;
 
 /// An import from its keyword on, as `use a::b;`.
-#[tactic(auto, unfolding(rap_events::specs::Machine::top, rap_grammar_scripts::specs::UseItem::use_))]
+#[tactic(auto, using(rap_grammar_frame::proofs::Done::marker_kept, rap_grammar_facts::proofs::UseItem::level_expect_use_tree), unfolding(rap_grammar_scripts::specs::UseItem::use_))]
 pub fn use_<G: Grammar>(p: &mut Parser<'_>, g: &G, m: Marker) -> Result<(), NoMemory>
     requires within { Within G.valid G.left g.now (state p.old) }
     requires newest { (state p.old).marker ≡ Some m.pos.value }
     requires here { next (state p.old) ≡ USE_KW }
-    ensures ended { OnOk result (Ended (state p.old) (state p.new) item_room) }
     ensures script { OnOk result (Does (G.left g.now) script.use_ something (state p.old) (state p.new)) }
 {
     p.bump(T![use])?;
@@ -49,7 +47,6 @@ pub fn use_<G: Grammar>(p: &mut Parser<'_>, g: &G, m: Marker) -> Result<(), NoMe
 #[tactic(auto, unfolding(rap_grammar_scripts::specs::UseItem::expect_use_tree))]
 fn expect_use_tree<G: Grammar>(p: &mut Parser<'_>, g: &G) -> Result<(), NoMemory>
     requires within { Within G.valid G.left g.now (state p.old) }
-    ensures grew { OnOk result (Grew (state p.old) (state p.new) recovery_events) }
     ensures script { OnOk result (Does (G.left g.now) script.expect_use_tree something (state p.old) (state p.new)) }
 {
     if is_use_tree_start(p) {
@@ -86,11 +83,10 @@ fn is_global_group_start(p: &Parser<'_>) -> bool
 }
 
 /// A tree of names, as `a::{b, c as d}`, of which one begins.
-#[tactic(auto, unfolding(rap_grammar_scripts::specs::UseItem::use_tree))]
+#[tactic(auto, using(rap_grammar_frame::proofs::Done::marker_kept, rap_grammar_facts::proofs::UseItem::level_group, rap_grammar_facts::proofs::UseItem::level_after_use_path), unfolding(rap_grammar_scripts::specs::UseItem::use_tree))]
 pub fn use_tree<G: Grammar>(p: &mut Parser<'_>, g: &G) -> Result<(), NoMemory>
     requires within { Within G.valid G.left g.now (state p.old) }
     requires here { holds is_use_tree_start (state p.old).rest ≡ true }
-    ensures took { OnOk result (Took (state p.old) (state p.new) list_room) }
     ensures script { OnOk result (Does (G.left g.now) script.use_tree something (state p.old) (state p.new)) }
 {
     let m = p.start()?;
@@ -116,7 +112,6 @@ pub fn use_tree<G: Grammar>(p: &mut Parser<'_>, g: &G) -> Result<(), NoMemory>
 fn group<G: Grammar>(p: &mut Parser<'_>, g: &G) -> Result<(), NoMemory>
     requires within { Within G.valid G.left g.now (state p.old) }
     requires first { is_group_first (next (state p.old)) ≡ true }
-    ensures took { OnOk result (Took (state p.old) (state p.new) use_list_room) }
     ensures script { OnOk result (Does (G.left g.now) script.group something (state p.old) (state p.new)) }
 {
     if p.eat(T![*])? {
@@ -130,7 +125,6 @@ fn group<G: Grammar>(p: &mut Parser<'_>, g: &G) -> Result<(), NoMemory>
 #[tactic(auto, unfolding(rap_grammar_scripts::specs::UseItem::after_use_path))]
 fn after_use_path<G: Grammar>(p: &mut Parser<'_>, g: &G) -> Result<(), NoMemory>
     requires within { Within G.valid G.left g.now (state p.old) }
-    ensures grew { OnOk result (Grew (state p.old) (state p.new) 0) }
     ensures script { OnOk result (Does (G.left g.now) script.after_use_path something (state p.old) (state p.new)) }
 {
     if p.at(T![as]) {
@@ -148,7 +142,6 @@ fn after_use_path<G: Grammar>(p: &mut Parser<'_>, g: &G) -> Result<(), NoMemory>
 fn group_behind<G: Grammar>(p: &mut Parser<'_>, g: &G) -> Result<(), NoMemory>
     requires within { Within G.valid G.left g.now (state p.old) }
     requires here { is_at COLON2 (state p.old).rest ≡ true }
-    ensures grew { OnOk result (Grew (state p.old) (state p.new) 0) }
     ensures script { OnOk result (Does (G.left g.now) script.group_behind something (state p.old) (state p.new)) }
 {
     p.bump(T![::])?;
@@ -165,7 +158,6 @@ fn group_behind<G: Grammar>(p: &mut Parser<'_>, g: &G) -> Result<(), NoMemory>
 pub fn use_tree_list<G: Grammar>(p: &mut Parser<'_>, g: &G) -> Result<(), NoMemory>
     requires within { Within G.valid G.left g.now (state p.old) }
     requires here { next (state p.old) ≡ L_CURLY }
-    ensures took { OnOk result (Took (state p.old) (state p.new) use_list_room) }
     ensures one { OnOk result
         ((state p.new).forest ≡ node (state p.old).forest USE_TREE_LIST (last_children (state p.new).forest)) }
     ensures script { OnOk result (Does (G.left g.now) script.use_tree_list something (state p.old) (state p.new)) }

@@ -57,7 +57,7 @@ pub fn param_list_closure<G: Grammar>(p: &mut Parser<'_>, g: &G) -> Result<(), N
 }
 
 /// The parameters in their brackets.
-#[tactic(auto, using(rap_grammar_frame::proofs::Binary::width_positive, crate::proofs::Lines::marker_behind_params), unfolding(rap_grammar_scripts::specs::Params::list_))]
+#[tactic(auto, using(rap_grammar_frame::proofs::Binary::width_positive, rap_grammar_facts::proofs::Params::marker_params_of), unfolding(rap_grammar_scripts::specs::Params::list_))]
 fn list_<G: Grammar>(p: &mut Parser<'_>, g: &G, flavor: Flavor) -> Result<(), NoMemory>
     requires within { Within G.valid G.left g.now (state p.old) }
     requires here { At (state p.old) (script.bra flavor) }
@@ -131,7 +131,7 @@ fn after_self(p: &mut Parser<'_>) -> Result<(), NoMemory>
 }
 
 /// Parameters with commas between them, up to where the list can't go on.
-#[tactic(auto, using(rap_grammar_frame::proofs::Loops::turns, rap_grammar_frame::proofs::Done::less_left, crate::proofs::Lines::on_moves), unfolding(rap_grammar_scripts::specs::Params::params))]
+#[tactic(auto, using(rap_grammar_frame::proofs::Loops::turns, rap_grammar_frame::proofs::Done::less_left, rap_grammar_facts::proofs::Params::on_attributed_param), unfolding(rap_grammar_scripts::specs::Params::params))]
 fn params<G: Grammar>(p: &mut Parser<'_>, g: &G, flavor: Flavor) -> Result<(), NoMemory>
     requires behind { Behind G.valid G.left g.now (state p.old) }
     ensures script { OnOk result (Does (G.left g.now) (script.params flavor) something (state p.old) (state p.new)) }
@@ -158,7 +158,7 @@ fn attributed_param<G: Grammar>(p: &mut Parser<'_>, g: &G, flavor: Flavor) -> Re
 }
 
 /// A parameter from its marker on, and the comma after it. Returns whether another one may follow.
-#[tactic(auto, using(crate::proofs::Lines::marker_behind_param), unfolding(rap_grammar_scripts::specs::Params::marked_param))]
+#[tactic(auto, using(rap_grammar_facts::proofs::Params::marker_param), unfolding(rap_grammar_scripts::specs::Params::marked_param))]
 fn marked_param<G: Grammar>(
     p: &mut Parser<'_>,
     g: &G,

@@ -347,7 +347,7 @@ fn fn_qualifiers(p: &mut Parser<'_>) -> Result<(), NoMemory>
 }
 
 /// The parameters of a function pointer, as `(a, b)`.
-#[tactic(auto, using(rap_grammar_params::proofs::Lines::fn_ptr_took), unfolding(rap_grammar_scripts::specs::Types::fn_ptr_params))]
+#[tactic(auto, using(rap_grammar_facts::proofs::Params::took_param_list_fn_ptr), unfolding(rap_grammar_scripts::specs::Types::fn_ptr_params))]
 fn fn_ptr_params<G: Grammar>(p: &mut Parser<'_>, g: &G) -> Result<(), NoMemory>
     requires within { Within G.valid G.left g.now (state p.old) }
     ensures grew { OnOk result (Grew (state p.old) (state p.new) 1) }

@@ -3,8 +3,13 @@ use Rattle.rap_grammar_scripts.proofs.Ends.{gives}
 use Rattle.rap_grammar_frame.proofs.Steps.{by_rule, by_expect}
 use Rattle.rap_grammar_expressions_builtin.proofs.asm.parse_reg.Goals as goal
 
-pub returns-clause-script : goal.returns-clause-script
+pub returns : goal.returns
 unfolding parse_reg
-returns-clause-script c depth = by_expect c.in_ok-expect.ensures.state
-    (by_rule (c.in_ok-reg_spec.ensures.script _)
-    (by_expect c.in_ok-expect-2.ensures.state gives))
+returns c = record {
+  script = record {
+    at = λ depth.
+        by_expect c.in_ok-expect.ensures.state
+        (by_rule (c.in_ok-reg_spec.ensures.script.at _)
+        (by_expect c.in_ok-expect-2.ensures.state gives));
+  };
+}

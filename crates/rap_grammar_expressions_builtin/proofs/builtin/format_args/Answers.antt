@@ -3,17 +3,21 @@ use Rattle.rap_grammar_scripts.proofs.Ends.{gives}
 use Rattle.rap_grammar_frame.proofs.Steps.{by_rule, by_expect, ate, not_ate}
 use Rattle.rap_grammar_expressions_builtin.proofs.builtin.format_args.Goals as goal
 
-pub returns-then-branch-clause-script : goal.returns-then-branch-clause-script
+pub returns-then-branch : goal.returns-then-branch
 unfolding format_args
-returns-then-branch-clause-script g c = by_expect c.in_ok-expect.ensures.state
-    (by_rule c.in_ok-expr.ensures.script
-    (ate c.in_ok-eat.ensures.state c.if-branch.true
-    (by_rule c.in_ok-format_arguments.ensures.script
-    (by_expect c.in_ok-expect-2.ensures.state gives))))
+returns-then-branch g c = record {
+  script = by_expect c.in_ok-expect.ensures.state
+      (by_rule c.in_ok-expr.ensures.script
+      (ate c.in_ok-eat.ensures.state c.if-branch.true
+      (by_rule c.in_ok-format_arguments.ensures.script
+      (by_expect c.in_ok-expect-2.ensures.state gives))));
+}
 
-pub returns-clause-script : goal.returns-clause-script
+pub returns : goal.returns
 unfolding format_args
-returns-clause-script g c = by_expect c.in_ok-expect.ensures.state
-    (by_rule c.in_ok-expr.ensures.script
-    (not_ate c.in_ok-eat.ensures.state c.if-branch.false
-    (by_expect c.in_ok-expect-3.ensures.state gives)))
+returns g c = record {
+  script = by_expect c.in_ok-expect.ensures.state
+      (by_rule c.in_ok-expr.ensures.script
+      (not_ate c.in_ok-eat.ensures.state c.if-branch.false
+      (by_expect c.in_ok-expect-3.ensures.state gives)));
+}

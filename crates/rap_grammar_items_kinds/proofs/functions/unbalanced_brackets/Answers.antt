@@ -6,11 +6,12 @@ use Rattle.rap_grammar_items_kinds.proofs.functions.unbalanced_brackets.Goals as
 
 pub brackets-preserved : goal.brackets-preserved
 brackets-preserved c = record {
-  grew = search rules;
   script = λ depth. turn (c.brackets.invariant.script depth)
       (passes (search rules) (by_skip c.in_ok-err_and_bump.ensures.state gives)) (search rules);
 }
 
-pub returns-clause-script : goal.returns-clause-script
+pub returns : goal.returns
 unfolding unbalanced_brackets
-returns-clause-script c depth = last_turn (c.brackets.invariant.script depth) (fails (search rules) gives) refl
+returns c = record {
+  script = record { at = λ depth. last_turn (c.brackets.invariant.script depth) (fails (search rules) gives) refl };
+}

@@ -1,13 +1,11 @@
 use Rattle.std.proofs.Common.{ℕ, false}
 use Rattle.rap_events.specs.State.{state}
 use Rattle.rap_grammar_scripts.specs.Functions.{bracket_turn}
-use Rattle.rap_grammar_frame.specs.Grew.{Grew}
 use Rattle.rap_grammar_frame.proofs.Steps.{Turns}
 use Rattle.rap_grammar_items_kinds.proofs.functions.unbalanced_brackets.Given as goal
 
 abbrev pub invariant-brackets : goal.invariant-brackets
 invariant-brackets l = record {
-  grew : Grew (state l.initial.p) (state l.p) 0;
   script : (depth : ℕ) → Turns depth bracket_turn false false false false l.initial.p l.p;
 }
 

@@ -1,0 +1,9 @@
+use Rattle.rap_grammar_scripts.specs.Asm.{parse_clobber_abi}
+use Rattle.rap_grammar_frame.proofs.Steps.{by_expect, to_end}
+use Rattle.rap_grammar_expressions_builtin.proofs.asm.parse_clobber_abi.Goals as goal
+
+pub returns : goal.returns
+unfolding parse_clobber_abi
+returns c = record {
+  script = record { at = λ depth. by_expect c.in_ok-expect.ensures.state (to_end (c.in_ok-clobber_abis.ensures.script.at _)) };
+}
