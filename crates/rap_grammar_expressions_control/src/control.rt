@@ -6,9 +6,10 @@ ghost use Rattle.rap_base.specs.NodeKind.{IF_EXPR, LET_EXPR, LOOP_EXPR, WHILE_EX
 ghost use Rattle.rap_events.specs.State.{state, next, NthAt};
 ghost use Rattle.rap_grammar_scripts.specs.Control as script;
 ghost use Rattle.rap_grammar_scripts.specs.Words.{of_expr};
-ghost use Rattle.rap_grammar_frame.specs.Grew.{Within, Behind, Took, Grew, Makes, Closed};
+ghost use Rattle.rap_grammar_frame.specs.Grew.{Within, Behind, Grew, Makes, Closed};
 ghost use Rattle.rap_grammar_scripts.specs.Exec.{Does};
-ghost use Rattle.rap_grammar_frame.specs.Room.{atom_room, list_room, name_room};
+ghost use Rattle.rap_grammar_facts.specs.Alone.{DoesAlone};
+ghost use Rattle.rap_grammar_frame.specs.Room.{atom_room, list_room};
 ghost use Rattle.rap_grammar_frame.specs.Rules.{Operand, OperandFrom};
 ghost use Rattle.rap_grammar_scripts.specs.Script.{something};
 
@@ -174,7 +175,7 @@ fn for_from<G: Grammar>(p: &mut Parser<'_>, g: &G, m: Marker) -> Result<Complete
 
 /// A loop or a block after its label, as `'a: loop {}`. Where neither follows, the label stands in an `ERROR`.
 #[inline(never)]
-#[tactic(auto, unfolding(rap_grammar_scripts::specs::Control::labelled_expr))]
+#[tactic(auto, using(rap_grammar_facts::proofs::Control::facts), unfolding(rap_grammar_scripts::specs::Control::labelled_expr))]
 pub fn labelled_expr<G: Grammar>(p: &mut Parser<'_>, g: &G) -> Result<Answer, NoMemory>
     requires within { Within G.valid G.left g.now (state p.old) }
     requires here { next (state p.old) ≡ LIFETIME_IDENT }
@@ -193,8 +194,7 @@ pub fn labelled_expr<G: Grammar>(p: &mut Parser<'_>, g: &G) -> Result<Answer, No
 fn label(p: &mut Parser<'_>) -> Result<(), NoMemory>
     requires here { next (state p.old) ≡ LIFETIME_IDENT }
     requires colon { NthAt (state p.old) 1 COLON }
-    ensures took { OnOk result (Took (state p.old) (state p.new) name_room) }
-    ensures script { OnOk result ((depth : ℕ) → Does depth script.label something (state p.old) (state p.new)) }
+    ensures script { OnOk result (DoesAlone script.label something (state p.old) (state p.new)) }
 {
     let m = p.start()?;
     lifetime(p)?;

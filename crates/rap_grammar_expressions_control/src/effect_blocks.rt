@@ -8,9 +8,10 @@ ghost use Rattle.rap_grammar_scripts.specs.EffectBlocks as script;
 ghost use Rattle.rap_grammar_scripts.specs.EffectBlocks.{is_effect_block};
 ghost use Rattle.rap_grammar_scripts.specs.Words.{of_expr};
 ghost use Rattle.rap_grammar_scripts.specs.First.{is_closure};
-ghost use Rattle.rap_grammar_frame.specs.Grew.{Within, Took, Makes};
+ghost use Rattle.rap_grammar_frame.specs.Grew.{Within, Makes};
 ghost use Rattle.rap_grammar_scripts.specs.Exec.{Does};
-ghost use Rattle.rap_grammar_frame.specs.Room.{atom_room, list_room};
+ghost use Rattle.rap_grammar_facts.specs.Alone.{DoesAlone};
+ghost use Rattle.rap_grammar_frame.specs.Room.{atom_room};
 ghost use Rattle.rap_grammar_frame.specs.Rules.{Operand};
 ghost use Rattle.rap_grammar_scripts.specs.Script.{something};
 ghost use Rattle.rap_grammar_scripts.specs.Test.{holds};
@@ -101,9 +102,8 @@ fn is_effect_block(p: &Parser<'_>) -> bool
 #[tactic(auto, using(crate::proofs::Effects::some_first, crate::proofs::Effects::brace_next), unfolding(rap_grammar_scripts::specs::EffectBlocks::effects))]
 fn effects(p: &mut Parser<'_>) -> Result<(), NoMemory>
     requires starts { holds is_effect_block (state p.old).rest ≡ true }
-    ensures took { OnOk result (Took (state p.old) (state p.new) list_room) }
     ensures here { OnOk result (next (state p.new) ≡ L_CURLY) }
-    ensures script { OnOk result ((depth : ℕ) → Does depth script.effects something (state p.old) (state p.new)) }
+    ensures script { OnOk result (DoesAlone script.effects something (state p.old) (state p.new)) }
 {
     p.bump_any()?;
     p.eat(T![gen])?;
@@ -113,7 +113,7 @@ fn effects(p: &mut Parser<'_>) -> Result<(), NoMemory>
 
 /// A block with a keyword before it, as `unsafe {}`.
 #[inline(never)]
-#[tactic(auto, unfolding(rap_grammar_scripts::specs::EffectBlocks::effect_block))]
+#[tactic(auto, using(rap_grammar_facts::proofs::EffectBlocks::facts), unfolding(rap_grammar_scripts::specs::EffectBlocks::effect_block))]
 fn effect_block<G: Grammar>(p: &mut Parser<'_>, g: &G) -> Result<CompletedMarker, NoMemory>
     requires within { Within G.valid G.left g.now (state p.old) }
     requires starts { holds is_effect_block (state p.old).rest ≡ true }
@@ -132,7 +132,6 @@ fn effect_block<G: Grammar>(p: &mut Parser<'_>, g: &G) -> Result<CompletedMarker
 fn try_modifier<G: Grammar>(p: &mut Parser<'_>, g: &G) -> Result<(), NoMemory>
     requires within { Within G.valid G.left g.now (state p.old) }
     requires here { next (state p.old) ≡ TRY_KW }
-    ensures took { OnOk result (Took (state p.old) (state p.new) list_room) }
     ensures script { OnOk result (Does (G.left g.now) script.try_modifier something (state p.old) (state p.new)) }
 {
     let m = p.start()?;
@@ -148,7 +147,7 @@ fn try_modifier<G: Grammar>(p: &mut Parser<'_>, g: &G) -> Result<(), NoMemory>
 
 /// A `try` block, as `try {}` and `try bikeshed a {}`.
 #[inline(never)]
-#[tactic(auto, unfolding(rap_grammar_scripts::specs::EffectBlocks::try_block_expr))]
+#[tactic(auto, using(rap_grammar_facts::proofs::EffectBlocks::facts), unfolding(rap_grammar_scripts::specs::EffectBlocks::try_block_expr))]
 fn try_block_expr<G: Grammar>(p: &mut Parser<'_>, g: &G) -> Result<CompletedMarker, NoMemory>
     requires within { Within G.valid G.left g.now (state p.old) }
     requires here { next (state p.old) ≡ TRY_KW }

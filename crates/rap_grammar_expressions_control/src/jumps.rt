@@ -8,6 +8,7 @@ ghost use Rattle.rap_grammar_scripts.specs.Jumps as script;
 ghost use Rattle.rap_grammar_scripts.specs.Atom as atom_script;
 ghost use Rattle.rap_grammar_frame.specs.Grew.{Within, Behind, Grew, Makes};
 ghost use Rattle.rap_grammar_scripts.specs.Exec.{Does};
+ghost use Rattle.rap_grammar_facts.specs.Alone.{DoesAlone};
 ghost use Rattle.rap_grammar_frame.specs.Room.{atom_room};
 ghost use Rattle.rap_grammar_scripts.specs.Script.{something};
 ghost use Rattle.rap_grammar_scripts.specs.Test.{holds};
@@ -48,8 +49,7 @@ fn opt_expr<G: Grammar>(p: &mut Parser<'_>, g: &G, before_block: bool) -> Result
 /// The label of the loop or block, if there is one.
 #[tactic(auto, unfolding(rap_grammar_scripts::specs::Jumps::opt_lifetime))]
 fn opt_lifetime(p: &mut Parser<'_>) -> Result<(), NoMemory>
-    ensures grew { OnOk result (Grew (state p.old) (state p.new) 0) }
-    ensures script { OnOk result ((depth : ℕ) → Does depth script.opt_lifetime something (state p.old) (state p.new)) }
+    ensures script { OnOk result (DoesAlone script.opt_lifetime something (state p.old) (state p.new)) }
 {
     if !p.at(T![lifetime_ident]) {
         return Ok(());
@@ -133,7 +133,7 @@ pub fn yeet_expr<G: Grammar>(p: &mut Parser<'_>, g: &G) -> Result<CompletedMarke
 
 /// A `continue`, as `continue` and `continue 'a`.
 #[inline(never)]
-#[tactic(auto, unfolding(rap_grammar_scripts::specs::Jumps::continue_expr))]
+#[tactic(auto, using(rap_grammar_facts::proofs::Jumps::grew_opt_lifetime), unfolding(rap_grammar_scripts::specs::Jumps::continue_expr))]
 pub fn continue_expr(p: &mut Parser<'_>) -> Result<CompletedMarker, NoMemory>
     requires here { next (state p.old) ≡ CONTINUE_KW }
     ensures made { IfOk result (Makes CONTINUE_EXPR atom_room (state p.old) (state p.new)) }
@@ -148,7 +148,7 @@ pub fn continue_expr(p: &mut Parser<'_>) -> Result<CompletedMarker, NoMemory>
 
 /// A `break`, as `break`, `break 'a` and `break 'a b`.
 #[inline(never)]
-#[tactic(auto, unfolding(rap_grammar_scripts::specs::Jumps::break_expr))]
+#[tactic(auto, using(rap_grammar_facts::proofs::Jumps::grew_opt_lifetime), unfolding(rap_grammar_scripts::specs::Jumps::break_expr))]
 pub fn break_expr<G: Grammar>(
     p: &mut Parser<'_>,
     g: &G,

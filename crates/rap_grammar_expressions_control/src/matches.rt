@@ -1,16 +1,16 @@
 //! `match` and its arms.
 //! In the Rust crate: `grammar/expressions/atom.rs`.
 ghost use Rattle.std.specs.Prelude.{ℕ, ◌≡◌, ◌≢◌, ◌<◌, ◌≤◌, IfOk, OnOk, true, false, [], ◌∷◌, if◌then◌else◌};
-ghost use Rattle.rap_base.specs.TokenKind.{EOF, IF_KW, MATCH_KW, L_CURLY, R_CURLY, EQ};
+ghost use Rattle.rap_base.specs.TokenKind.{IF_KW, MATCH_KW, L_CURLY};
 ghost use Rattle.rap_base.specs.NodeKind.{MATCH_EXPR, MATCH_ARM_LIST};
 ghost use Rattle.rap_events.specs.Forest.{node};
 ghost use Rattle.rap_events.specs.State.{state, last_children, next};
 ghost use Rattle.rap_grammar_scripts.specs.Matches as script;
 ghost use Rattle.rap_grammar_scripts.specs.Words.{of_like, is_block};
-ghost use Rattle.rap_grammar_scripts.specs.First.{one_of};
-ghost use Rattle.rap_grammar_frame.specs.Grew.{Within, Behind, Took, Grew, Makes};
+ghost use Rattle.rap_grammar_frame.specs.Grew.{Within, Behind, Makes};
 ghost use Rattle.rap_grammar_scripts.specs.Exec.{Does};
-ghost use Rattle.rap_grammar_frame.specs.Room.{atom_room, list_room, pattern_room, statement_room, arm_room};
+ghost use Rattle.rap_grammar_facts.specs.Alone.{DoesAlone};
+ghost use Rattle.rap_grammar_frame.specs.Room.{atom_room};
 ghost use Rattle.rap_grammar_scripts.specs.Script.{something, again};
 
 use rap_base::T;
@@ -25,7 +25,7 @@ use rap_grammar_scripts::arguments::BlockLike;
 
 /// A `match`, as `match a { b => c }`.
 #[inline(never)]
-#[tactic(auto, unfolding(rap_grammar_scripts::specs::Matches::match_expr))]
+#[tactic(auto, using(rap_grammar_facts::proofs::Matches::facts), unfolding(rap_grammar_scripts::specs::Matches::match_expr))]
 pub fn match_expr<G: Grammar>(p: &mut Parser<'_>, g: &G) -> Result<CompletedMarker, NoMemory>
     requires within { Within G.valid G.left g.now (state p.old) }
     requires here { next (state p.old) ≡ MATCH_KW }
@@ -46,11 +46,10 @@ pub fn match_expr<G: Grammar>(p: &mut Parser<'_>, g: &G) -> Result<CompletedMark
 }
 
 /// The arms of a `match` in their braces.
-#[tactic(auto, unfolding(rap_grammar_scripts::specs::Matches::match_arm_list))]
+#[tactic(auto, using(rap_grammar_facts::proofs::Matches::marker_match_arms, rap_grammar_facts::proofs::Matches::below_match_arms), unfolding(rap_grammar_scripts::specs::Matches::match_arm_list))]
 pub fn match_arm_list<G: Grammar>(p: &mut Parser<'_>, g: &G) -> Result<(), NoMemory>
     requires within { Within G.valid G.left g.now (state p.old) }
     requires here { next (state p.old) ≡ L_CURLY }
-    ensures took { OnOk result (Took (state p.old) (state p.new) list_room) }
     ensures one { OnOk result
         ((state p.new).forest ≡ node (state p.old).forest MATCH_ARM_LIST (last_children (state p.new).forest)) }
     ensures script { OnOk result (Does (G.left g.now) script.match_arm_list something (state p.old) (state p.new)) }
@@ -65,10 +64,9 @@ pub fn match_arm_list<G: Grammar>(p: &mut Parser<'_>, g: &G) -> Result<(), NoMem
 }
 
 /// The arms up to the brace that closes. What is not an arm is reported and skipped.
-#[tactic(auto, using(rap_grammar_frame::proofs::Loops::turns), unfolding(rap_grammar_scripts::specs::Matches::match_arms))]
+#[tactic(auto, using(rap_grammar_facts::proofs::Matches::facts, rap_grammar_frame::proofs::Loops::turns), unfolding(rap_grammar_scripts::specs::Matches::match_arms))]
 fn match_arms<G: Grammar>(p: &mut Parser<'_>, g: &G) -> Result<(), NoMemory>
     requires behind { Behind G.valid G.left g.now (state p.old) }
-    ensures grew { OnOk result (Grew (state p.old) (state p.new) 0) }
     ensures script { OnOk result (Does (G.left g.now) script.match_arms something (state p.old) (state p.new)) }
 {
     'arms: loop {
@@ -82,8 +80,6 @@ fn match_arms<G: Grammar>(p: &mut Parser<'_>, g: &G) -> Result<(), NoMemory>
 /// An arm, or what stands in its place, up to the brace that closes. Returns whether there was one.
 fn next_arm<G: Grammar>(p: &mut Parser<'_>, g: &G) -> Result<bool, NoMemory>
     requires behind { Behind G.valid G.left g.now (state p.old) }
-    ensures grew { OnOk result (Grew (state p.old) (state p.new) 0) }
-    ensures less { IfOk result (λ more. more ≡ true → (state p.new).left < (state p.old).left) }
     ensures script { IfOk result
         (λ more. Does (G.left g.now) (script.arms_turn false false) (if more then again false false else something)
         (state p.old) (state p.new)) }
@@ -107,11 +103,9 @@ fn next_arm<G: Grammar>(p: &mut Parser<'_>, g: &G) -> Result<bool, NoMemory>
 }
 
 /// An arm, as `a if b => c,`.
-#[tactic(auto, using(rap_grammar_frame::proofs::Steps::by_report), unfolding(rap_grammar_scripts::specs::Matches::match_arm))]
+#[tactic(auto, using(rap_grammar_facts::proofs::Matches::fewer_arm_head, rap_grammar_facts::proofs::Matches::marker_arm_head, rap_grammar_facts::proofs::Matches::marker_arm_body, rap_grammar_frame::proofs::Steps::by_report), unfolding(rap_grammar_scripts::specs::Matches::match_arm))]
 fn match_arm<G: Grammar>(p: &mut Parser<'_>, g: &G) -> Result<(), NoMemory>
     requires behind { Behind G.valid G.left g.now (state p.old) }
-    requires more { one_of (EOF ∷ L_CURLY ∷ R_CURLY ∷ []) (next (state p.old)) ≡ false }
-    ensures took { OnOk result (Took (state p.old) (state p.new) arm_room) }
     ensures script { OnOk result (Does (G.left g.now) script.match_arm something (state p.old) (state p.new)) }
 {
     let m = p.start()?;
@@ -124,14 +118,9 @@ fn match_arm<G: Grammar>(p: &mut Parser<'_>, g: &G) -> Result<(), NoMemory>
 }
 
 /// The attributes, pattern and guard of an arm. It takes no token where the arrow itself comes next.
-#[tactic(auto, unfolding(rap_grammar_scripts::specs::Matches::arm_head))]
+#[tactic(auto, using(rap_grammar_facts::proofs::Matches::facts), unfolding(rap_grammar_scripts::specs::Matches::arm_head))]
 fn arm_head<G: Grammar>(p: &mut Parser<'_>, g: &G) -> Result<(), NoMemory>
     requires behind { Behind G.valid G.left g.now (state p.old) }
-    ensures grew { OnOk result (Grew (state p.old) (state p.new) 8) }
-    ensures took { OnOk result
-        (one_of (EOF ∷ L_CURLY ∷ R_CURLY ∷ EQ ∷ []) (next (state p.old)) ≡ false →
-        Took (state p.old) (state p.new) pattern_room) }
-    ensures stays { OnOk result (next (state p.old) ≡ EQ → next (state p.new) ≡ EQ) }
     ensures script { OnOk result (Does (G.left g.now) script.arm_head something (state p.old) (state p.new)) }
 {
     arm_pattern(p, g)?;
@@ -147,7 +136,6 @@ fn arm_head<G: Grammar>(p: &mut Parser<'_>, g: &G) -> Result<(), NoMemory>
 fn match_guard<G: Grammar>(p: &mut Parser<'_>, g: &G) -> Result<(), NoMemory>
     requires within { Within G.valid G.left g.now (state p.old) }
     requires here { next (state p.old) ≡ IF_KW }
-    ensures took { OnOk result (Took (state p.old) (state p.new) list_room) }
     ensures script { OnOk result (Does (G.left g.now) script.match_guard something (state p.old) (state p.new)) }
 {
     let m = p.start()?;
@@ -163,11 +151,9 @@ fn match_guard<G: Grammar>(p: &mut Parser<'_>, g: &G) -> Result<(), NoMemory>
 }
 
 /// The body of an arm, and the comma after it.
-#[tactic(auto, unfolding(rap_grammar_scripts::specs::Matches::arm_body))]
+#[tactic(auto, using(rap_grammar_facts::proofs::Matches::facts), unfolding(rap_grammar_scripts::specs::Matches::arm_body))]
 fn arm_body<G: Grammar>(p: &mut Parser<'_>, g: &G) -> Result<(), NoMemory>
     requires behind { Behind G.valid G.left g.now (state p.old) }
-    ensures grew { OnOk result (Grew (state p.old) (state p.new) 9) }
-    ensures took { OnOk result (next (state p.old) ≡ EQ → Took (state p.old) (state p.new) statement_room) }
     ensures script { OnOk result (Does (G.left g.now) script.arm_body something (state p.old) (state p.new)) }
 {
     if p.eat(T![,])? {
@@ -185,10 +171,8 @@ fn arm_body<G: Grammar>(p: &mut Parser<'_>, g: &G) -> Result<(), NoMemory>
 /// The comma after an arm. It may be missing after a block and at the end.
 #[tactic(auto, unfolding(rap_grammar_scripts::specs::Matches::arm_end))]
 fn arm_end(p: &mut Parser<'_>, block_like: BlockLike) -> Result<(), NoMemory>
-    ensures grew { OnOk result (Grew (state p.old) (state p.new) 1) }
     ensures script { OnOk result
-        ((depth : ℕ) → Does depth (script.arm_end (is_block (of_like block_like))) something (state p.old)
-        (state p.new)) }
+        (DoesAlone (script.arm_end (is_block (of_like block_like))) something (state p.old) (state p.new)) }
 {
     if p.eat(T![,])? {
         return Ok(());

@@ -5,9 +5,11 @@ use Rattle.rap_events.specs.State.{state}
 use Rattle.rap_events.specs.declared.parser.Parser.{Parser}
 use Rattle.rap_grammar_scripts.specs.Effects.{level}
 use Rattle.rap_grammar_scripts.specs.Exec.{Does}
-use Rattle.rap_grammar_scripts.specs.Script.{Outcome}
+use Rattle.rap_grammar_scripts.specs.Script.{Outcome, something}
 use Rattle.rap_grammar_scripts.specs.declared.arguments.Restrictions.{Restrictions}
-use Rattle.rap_grammar_frame.proofs.Done.{moved}
+use Rattle.rap_grammar_frame.specs.Grew.{Took}
+use Rattle.rap_grammar_frame.specs.Room.{name_room}
+use Rattle.rap_grammar_frame.proofs.Done.{moved, took}
 use Rattle.rap_grammar_facts.specs.Alone.{DoesAlone}
 use Rattle.rap_grammar_facts.proofs.Alone.{kept}
 use Rattle.rap_grammar_scripts.proofs.Scripts.{scripts}
@@ -95,6 +97,12 @@ pub moved_label : {v : Outcome} → (p q : Parser) →
 unfolding scripts
 moved_label p q d = let x = d.at 0 in moved p q x refl
 
+pub took_label : (p q : Parser) →
+    DoesAlone script.label something (state p) (state q) →
+    Took (state p) (state q) name_room
+unfolding scripts
+took_label p q d = let x = d.at 0 in took name_room p q x refl (moved p q x refl)
+
 pub level_labelled_expr : level script.labelled_expr ≡ true
 unfolding scripts
 level_labelled_expr = refl
@@ -124,6 +132,7 @@ pub ruleset facts = (
   moved_for_expr,
   level_label,
   moved_label,
+  took_label,
   level_labelled_expr,
   moved_labelled_expr,
 )

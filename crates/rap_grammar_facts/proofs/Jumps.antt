@@ -7,9 +7,11 @@ use Rattle.rap_grammar_scripts.specs.Effects.{level}
 use Rattle.rap_grammar_scripts.specs.Exec.{Does}
 use Rattle.rap_grammar_scripts.specs.Script.{Outcome}
 use Rattle.rap_grammar_scripts.specs.declared.arguments.Restrictions.{Restrictions}
+use Rattle.rap_grammar_frame.specs.Grew.{Grew}
 use Rattle.rap_grammar_frame.proofs.Done.{moved}
 use Rattle.rap_grammar_facts.specs.Alone.{DoesAlone}
 use Rattle.rap_grammar_facts.proofs.Alone.{kept}
+use Rattle.rap_grammar_facts.proofs.Grown.{grown}
 use Rattle.rap_grammar_scripts.proofs.Scripts.{scripts}
 use Rattle.rap_grammar_scripts.specs.Jumps as script
 
@@ -21,6 +23,12 @@ level_opt_expr false = refl
 pub level_opt_lifetime : level script.opt_lifetime ≡ true
 unfolding scripts
 level_opt_lifetime = refl
+
+pub grew_opt_lifetime : {v : Outcome} → (p q : Parser) →
+    DoesAlone script.opt_lifetime v (state p) (state q) →
+    Grew (state p) (state q) 0
+unfolding scripts
+grew_opt_lifetime p q d = let x = d.at 0 in grown 0 p q x refl
 
 pub level_return_expr : level script.return_expr ≡ true
 unfolding scripts
@@ -87,6 +95,7 @@ pub ruleset facts = (
   kept,
   level_opt_expr,
   level_opt_lifetime,
+  grew_opt_lifetime,
   level_return_expr,
   moved_return_expr,
   level_become_expr,

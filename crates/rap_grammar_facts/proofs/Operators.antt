@@ -7,8 +7,11 @@ use Rattle.rap_grammar_scripts.specs.Effects.{level}
 use Rattle.rap_grammar_scripts.specs.Exec.{Does}
 use Rattle.rap_grammar_scripts.specs.Script.{Outcome}
 use Rattle.rap_grammar_scripts.specs.declared.arguments.Restrictions.{Restrictions}
+use Rattle.rap_grammar_frame.specs.Grew.{Grew}
 use Rattle.rap_grammar_frame.proofs.Done.{moved}
+use Rattle.rap_grammar_facts.specs.Alone.{DoesAlone}
 use Rattle.rap_grammar_facts.proofs.Alone.{kept}
+use Rattle.rap_grammar_facts.proofs.Grown.{grown}
 use Rattle.rap_grammar_scripts.proofs.Scripts.{scripts}
 use Rattle.rap_grammar_scripts.specs.Operators as script
 
@@ -25,6 +28,12 @@ moved_cast_expr p q d = moved p q d refl
 pub level_ref_qualifier : level script.ref_qualifier ≡ true
 unfolding scripts
 level_ref_qualifier = refl
+
+pub grew_ref_qualifier : {v : Outcome} → (p q : Parser) →
+    DoesAlone script.ref_qualifier v (state p) (state q) →
+    Grew (state p) (state q) 0
+unfolding scripts
+grew_ref_qualifier p q d = let x = d.at 0 in grown 0 p q x refl
 
 pub level_ref_expr : (a : Restrictions) → level (script.ref_expr a) ≡ true
 unfolding scripts
@@ -52,6 +61,7 @@ pub ruleset facts = (
   level_cast_expr,
   moved_cast_expr,
   level_ref_qualifier,
+  grew_ref_qualifier,
   level_ref_expr,
   moved_ref_expr,
   level_prefix_expr,

@@ -1,14 +1,18 @@
 -- What is computed of the scripts of Postfix: the open nodes are as before, and a token is taken.
 -- Written by crates/rap_grammar_facts/facts from the scripts: an edit here is lost.
-use Rattle.std.proofs.Common.{◌≡◌, ◌<◌, ℕ, true, refl}
+use Rattle.std.proofs.Common.{◌≡◌, ◌<◌, ℕ, Bool, true, false, refl}
 use Rattle.rap_events.specs.State.{state}
 use Rattle.rap_events.specs.declared.parser.Parser.{Parser}
 use Rattle.rap_grammar_scripts.specs.Effects.{level}
 use Rattle.rap_grammar_scripts.specs.Exec.{Does}
-use Rattle.rap_grammar_scripts.specs.Script.{Outcome}
-use Rattle.rap_grammar_frame.proofs.Done.{moved}
+use Rattle.rap_grammar_scripts.specs.Script.{Outcome, something, again}
+use Rattle.rap_grammar_frame.specs.Grew.{Grew, Took}
+use Rattle.rap_grammar_frame.specs.Room.{arguments_room}
+use Rattle.rap_grammar_frame.proofs.Done.{moved, took}
 use Rattle.rap_grammar_facts.specs.Alone.{DoesAlone}
 use Rattle.rap_grammar_facts.proofs.Alone.{kept}
+use Rattle.rap_grammar_facts.proofs.Grown.{grown}
+use Rattle.rap_grammar_facts.proofs.Moved.{turn_moved}
 use Rattle.rap_grammar_scripts.proofs.Scripts.{scripts}
 use Rattle.rap_grammar_scripts.specs.Postfix as script
 
@@ -21,6 +25,12 @@ pub moved_arg_list : {n : ℕ} {v : Outcome} → (p q : Parser) →
     (state q).left < (state p).left
 unfolding scripts
 moved_arg_list p q d = moved p q d refl
+
+pub took_arg_list : {n : ℕ} → (p q : Parser) →
+    Does n script.arg_list something (state p) (state q) →
+    Took (state p) (state q) arguments_room
+unfolding scripts
+took_arg_list p q d = took arguments_room p q d refl (moved p q d refl)
 
 pub level_call_expr : level script.call_expr ≡ true
 unfolding scripts
@@ -64,11 +74,30 @@ pub moved_postfix_dot_expr : {n : ℕ} {v : Outcome} → (p q : Parser) →
 unfolding scripts
 moved_postfix_dot_expr p q d = moved p q d refl
 
+pub onward_postfix_turn : {n : ℕ} {x y : Bool} (a : Bool) (b : Bool) → (p q : Parser) →
+    Does n (script.postfix_turn a b) (again x y) (state p) (state q) →
+    (state q).left < (state p).left
+unfolding scripts
+onward_postfix_turn true true p q d = turn_moved p q d refl
+onward_postfix_turn true false p q d = turn_moved p q d refl
+onward_postfix_turn false true p q d = turn_moved p q d refl
+onward_postfix_turn false false p q d = turn_moved p q d refl
+
+pub grew_postfix_expr : {n : ℕ} {v : Outcome} (a : Bool) (b : Bool) → (p q : Parser) →
+    Does n (script.postfix_expr a b) v (state p) (state q) →
+    Grew (state p) (state q) 0
+unfolding scripts
+grew_postfix_expr true true p q d = grown 0 p q d refl
+grew_postfix_expr true false p q d = grown 0 p q d refl
+grew_postfix_expr false true p q d = grown 0 p q d refl
+grew_postfix_expr false false p q d = grown 0 p q d refl
+
 -- all of them
 pub ruleset facts = (
   kept,
   level_arg_list,
   moved_arg_list,
+  took_arg_list,
   level_call_expr,
   moved_call_expr,
   level_index_expr,
@@ -77,4 +106,6 @@ pub ruleset facts = (
   moved_try_expr,
   moved_await_expr,
   moved_postfix_dot_expr,
+  onward_postfix_turn,
+  grew_postfix_expr,
 )

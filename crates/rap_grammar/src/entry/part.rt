@@ -55,7 +55,7 @@ pub enum Part {
 }
 
 /// Runs the rule of a part.
-#[tactic(auto, using(rap_grammar_facts::proofs::Modules::took_item_list, rap_grammar_facts::proofs::Modules::took_extern_item_list, rap_grammar_facts::proofs::Traits::took_assoc_item_list, rap_grammar_facts::proofs::UseItem::took_use_tree_list, crate::proofs::Depth::more, rap_grammar_facts::proofs::Adt::took_record_field_list, rap_grammar_facts::proofs::Adt::took_variant_list))]
+#[tactic(auto, using(rap_grammar_facts::proofs::Modules::took_item_list, rap_grammar_facts::proofs::Modules::took_extern_item_list, rap_grammar_facts::proofs::Traits::took_assoc_item_list, rap_grammar_facts::proofs::UseItem::took_use_tree_list, rap_grammar_facts::proofs::Matches::took_match_arm_list, rap_grammar_facts::proofs::Records::took_record_expr_field_list, crate::proofs::Depth::more, rap_grammar_facts::proofs::Adt::took_record_field_list, rap_grammar_facts::proofs::Adt::took_variant_list))]
 fn run_part(p: &mut Parser<'_>, part: Part) -> Result<(), NoMemory>
     requires brace { asks_brace part ≡ true → next (state p.old) ≡ L_CURLY }
     ensures grew { OnOk result (Grew (state p.old) (state p.new) 8) }

@@ -7,11 +7,16 @@ use Rattle.rap_grammar_expressions_control.proofs.control.label.Goals as goal
 pub bump-requires-clause-here : goal.bump-requires-clause-here
 bump-requires-clause-here c = colon_left c.in_ok-m.ensures.state c.in_ok-lifetime.ensures.script c.requires.colon
 
-pub returns-clause-script : goal.returns-clause-script
+pub returns : goal.returns
 unfolding label
-returns-clause-script c depth = by_start c.in_ok-m.ensures.state
-    (by_rule (c.in_ok-lifetime.ensures.script _)
-    (by_bump
-    (colon_left c.in_ok-m.ensures.state c.in_ok-lifetime.ensures.script c.requires.colon)
-    c.in_ok-bump.ensures.state
-    (by_complete c.in_ok-complete.ensures.state.0 gives)))
+returns c = record {
+  script = record {
+    at = λ depth.
+        by_start c.in_ok-m.ensures.state
+        (by_rule (c.in_ok-lifetime.ensures.script _)
+        (by_bump
+        (colon_left c.in_ok-m.ensures.state c.in_ok-lifetime.ensures.script c.requires.colon)
+        c.in_ok-bump.ensures.state
+        (by_complete c.in_ok-complete.ensures.state.0 gives)));
+  };
+}
