@@ -1,7 +1,7 @@
--- How many events a call recorded that does what a script does; and what a list is promised of an element: so many
--- events, and room where another element may follow.
+-- How many events a call recorded that does what a script does; what a list is promised of an element: so many events,
+-- and room where another element may follow; and what is promised of a type.
 use Rattle.std.proofs.Common.{◌≡◌, ◌&&◌, ℕ, Bool, true, false, List, [], ◌∷◌, if◌then◌else◌, refl, arith}
-use Rattle.rap_events.specs.State.{state}
+use Rattle.rap_events.specs.State.{State, state}
 use Rattle.rap_events.specs.declared.parser.Parser.{Parser}
 use Rattle.rap_grammar_scripts.specs.Effects.{Effect, effect, grows, leaves, is_level}
 use Rattle.rap_grammar_scripts.specs.Exec.{Does}
@@ -12,7 +12,8 @@ use Rattle.rap_grammar_scripts.specs.Words.{of_bool}
 use Rattle.rap_grammar_scripts.specs.declared.rule.Rule.{Rule}
 use Rattle.rap_grammar_scripts.proofs.Moves.{left_so, right_so}
 use Rattle.rap_grammar_frame.specs.Grew.{Grew, Took}
-use Rattle.rap_grammar_frame.specs.Room.{element_room}
+use Rattle.rap_grammar_frame.specs.Room.{element_room, type_room}
+use Rattle.rap_grammar_frame.specs.Rules.{IsType}
 use Rattle.rap_grammar_frame.proofs.Done.{grew, took}
 use Rattle.rap_grammar_facts.proofs.Moved.{moved_on}
 
@@ -55,3 +56,19 @@ element_grew {n = n} {s = s} true p q d g l h =
       below = t.below;
     }
 element_grew {n = n} {s = s} false p q d g l h = grew {n = n} {s = s} {v = nothing} 16 p q d g
+
+-- a type was read, where a token was taken
+pub is_type : {s t : State} → Took s t type_room → IsType s t
+is_type k =
+    record {
+      grew = record {
+        input = k.input;
+        left = omega (arith, k.left);
+        count = omega (arith, k.count);
+        messages = k.messages;
+        marker = k.marker;
+        below = k.below;
+      };
+      took = λ h. k;
+      skips = λ h. k;
+    }

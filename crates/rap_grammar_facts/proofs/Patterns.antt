@@ -1,14 +1,20 @@
 -- What is computed of the scripts of Patterns: the open nodes are as before, and a token is taken.
 -- Written by crates/rap_grammar_facts/facts from the scripts: an edit here is lost.
 use Rattle.std.proofs.Common.{◌≡◌, ◌<◌, ℕ, Bool, true, false, refl}
+use Rattle.rap_base.specs.TokenKind.{EOF, R_CURLY}
+use Rattle.rap_events.specs.Composite.{is_at}
 use Rattle.rap_events.specs.State.{state}
 use Rattle.rap_events.specs.declared.parser.Parser.{Parser}
 use Rattle.rap_grammar_scripts.specs.Effects.{level}
 use Rattle.rap_grammar_scripts.specs.Exec.{Does}
-use Rattle.rap_grammar_scripts.specs.Script.{Outcome}
-use Rattle.rap_grammar_frame.proofs.Done.{moved}
+use Rattle.rap_grammar_scripts.specs.Script.{Outcome, something}
+use Rattle.rap_grammar_frame.specs.Grew.{Grew, Took}
+use Rattle.rap_grammar_frame.specs.Room.{list_room, single_pattern_room}
+use Rattle.rap_grammar_frame.proofs.Done.{moved, took}
 use Rattle.rap_grammar_facts.specs.Alone.{DoesAlone}
 use Rattle.rap_grammar_facts.proofs.Alone.{kept}
+use Rattle.rap_grammar_facts.proofs.Grown.{grown}
+use Rattle.rap_grammar_facts.proofs.Moved.{moved_inside}
 use Rattle.rap_grammar_scripts.proofs.Scripts.{scripts}
 use Rattle.rap_grammar_scripts.specs.Patterns as script
 
@@ -117,6 +123,16 @@ pub level_record_pat_element : level script.record_pat_element ≡ true
 unfolding scripts
 level_record_pat_element = refl
 
+pub inside_record_pat_turn : {n : ℕ} {v : Outcome} (a : Bool) (b : Bool) → (p q : Parser) →
+    Does n (script.record_pat_turn a b) v (state p) (state q) →
+    is_at EOF (state p).rest ≡ false → is_at R_CURLY (state p).rest ≡ false →
+    (state q).left < (state p).left
+unfolding scripts
+inside_record_pat_turn true true p q d e f = moved_inside p q d e f refl
+inside_record_pat_turn true false p q d e f = moved_inside p q d e f refl
+inside_record_pat_turn false true p q d e f = moved_inside p q d e f refl
+inside_record_pat_turn false false p q d e f = moved_inside p q d e f refl
+
 pub level_record_pat_fields : level script.record_pat_fields ≡ true
 unfolding scripts
 level_record_pat_fields = refl
@@ -131,6 +147,12 @@ pub moved_record_pat_field_list : {n : ℕ} {v : Outcome} → (p q : Parser) →
 unfolding scripts
 moved_record_pat_field_list p q d = moved p q d refl
 
+pub took_record_pat_field_list : {n : ℕ} → (p q : Parser) →
+    Does n script.record_pat_field_list something (state p) (state q) →
+    Took (state p) (state q) list_room
+unfolding scripts
+took_record_pat_field_list p q d = took list_room p q d refl (moved p q d refl)
+
 pub level_tuple_pat_fields : level script.tuple_pat_fields ≡ true
 unfolding scripts
 level_tuple_pat_fields = refl
@@ -140,6 +162,12 @@ pub moved_tuple_pat_fields : {n : ℕ} {v : Outcome} → (p q : Parser) →
     (state q).left < (state p).left
 unfolding scripts
 moved_tuple_pat_fields p q d = moved p q d refl
+
+pub took_tuple_pat_fields : {n : ℕ} → (p q : Parser) →
+    Does n script.tuple_pat_fields something (state p) (state q) →
+    Took (state p) (state q) list_room
+unfolding scripts
+took_tuple_pat_fields p q d = took list_room p q d refl (moved p q d refl)
 
 pub level_path_or_macro_pat : level script.path_or_macro_pat ≡ true
 unfolding scripts
@@ -175,6 +203,13 @@ unfolding scripts
 level_range_op true = refl
 level_range_op false = refl
 
+pub grew_range_op : {n : ℕ} {v : Outcome} (a : Bool) → (p q : Parser) →
+    Does n (script.range_op a) v (state p) (state q) →
+    Grew (state p) (state q) 0
+unfolding scripts
+grew_range_op true p q d = grown 0 p q d refl
+grew_range_op false p q d = grown 0 p q d refl
+
 pub level_range_to_pat : (a : Bool) → level (script.range_to_pat a) ≡ true
 unfolding scripts
 level_range_to_pat true = refl
@@ -187,6 +222,13 @@ unfolding scripts
 moved_range_to_pat true p q d = moved p q d refl
 moved_range_to_pat false p q d = moved p q d refl
 
+pub took_range_to_pat : {n : ℕ} (a : Bool) → (p q : Parser) →
+    Does n (script.range_to_pat a) something (state p) (state q) →
+    Took (state p) (state q) single_pattern_room
+unfolding scripts
+took_range_to_pat true p q d = took single_pattern_room p q d refl (moved p q d refl)
+took_range_to_pat false p q d = took single_pattern_room p q d refl (moved p q d refl)
+
 pub level_rest_pat : (a : Bool) → level (script.rest_pat a) ≡ true
 unfolding scripts
 level_rest_pat true = refl
@@ -198,6 +240,13 @@ pub moved_rest_pat : {n : ℕ} {v : Outcome} (a : Bool) → (p q : Parser) →
 unfolding scripts
 moved_rest_pat true p q d = moved p q d refl
 moved_rest_pat false p q d = moved p q d refl
+
+pub took_rest_pat : {n : ℕ} (a : Bool) → (p q : Parser) →
+    Does n (script.rest_pat a) something (state p) (state q) →
+    Took (state p) (state q) single_pattern_room
+unfolding scripts
+took_rest_pat true p q d = took single_pattern_room p q d refl (moved p q d refl)
+took_rest_pat false p q d = took single_pattern_room p q d refl (moved p q d refl)
 
 pub level_pattern_single_r : (a : Bool) → level (script.pattern_single_r a) ≡ true
 unfolding scripts
@@ -239,11 +288,14 @@ pub ruleset facts = (
   moved_tuple_pat,
   level_record_pat_field,
   level_record_pat_element,
+  inside_record_pat_turn,
   level_record_pat_fields,
   level_record_pat_field_list,
   moved_record_pat_field_list,
+  took_record_pat_field_list,
   level_tuple_pat_fields,
   moved_tuple_pat_fields,
+  took_tuple_pat_fields,
   level_path_or_macro_pat,
   level_builtin_pat,
   moved_builtin_pat,
@@ -251,10 +303,13 @@ pub ruleset facts = (
   level_symbol_pat,
   level_atom_pat,
   level_range_op,
+  grew_range_op,
   level_range_to_pat,
   moved_range_to_pat,
+  took_range_to_pat,
   level_rest_pat,
   moved_rest_pat,
+  took_rest_pat,
   level_pattern_single_r,
   level_alternatives,
   level_pattern_r,

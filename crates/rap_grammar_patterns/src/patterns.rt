@@ -10,7 +10,7 @@ ghost use Rattle.rap_grammar_scripts.specs.Exec.{Does};
 ghost use Rattle.rap_grammar_scripts.specs.Patterns as script;
 ghost use Rattle.rap_grammar_scripts.specs.Patterns.{ends_range_pat, is_ident_pat_start, is_literal_pat_start, at_field, is_rest_pat, ends_search};
 ghost use Rattle.rap_grammar_scripts.specs.Recovery.{is_pattern_recovery, stops_of};
-ghost use Rattle.rap_grammar_frame.specs.Room.{element_room, pattern_room, single_pattern_room, atom_pattern_room, list_room, name_room, recovery_events};
+ghost use Rattle.rap_grammar_frame.specs.Room.{element_room, pattern_room, single_pattern_room, atom_pattern_room, name_room, recovery_events};
 ghost use Rattle.rap_grammar_frame.specs.Rules.{IsAtomPattern, PatternUntil};
 ghost use Rattle.rap_grammar_scripts.specs.Script.{something, nothing, again};
 ghost use Rattle.rap_grammar_scripts.specs.Test.{holds};
@@ -157,7 +157,6 @@ pub fn pattern_single_elsewhere<G: Grammar>(p: &mut Parser<'_>, g: &G) -> Result
 fn range_to_pat<G: Grammar>(p: &mut Parser<'_>, g: &G, in_arm: bool) -> Result<(), NoMemory>
     requires within { Within G.valid G.left g.now (state p.old) }
     requires here { At (state p.old) DOT2EQ }
-    ensures took { OnOk result (Took (state p.old) (state p.new) single_pattern_room) }
     ensures script { OnOk result
         (Does (G.left g.now) (script.range_to_pat in_arm) something (state p.old) (state p.new)) }
 {
@@ -173,7 +172,6 @@ fn range_to_pat<G: Grammar>(p: &mut Parser<'_>, g: &G, in_arm: bool) -> Result<(
 fn rest_pat<G: Grammar>(p: &mut Parser<'_>, g: &G, in_arm: bool) -> Result<(), NoMemory>
     requires within { Within G.valid G.left g.now (state p.old) }
     requires here { At (state p.old) DOT2 }
-    ensures took { OnOk result (Took (state p.old) (state p.new) single_pattern_room) }
     ensures script { OnOk result (Does (G.left g.now) (script.rest_pat in_arm) something (state p.old) (state p.new)) }
 {
     let m = p.start()?;
@@ -197,7 +195,6 @@ fn range_op<G: Grammar>(
 ) -> Result<(), NoMemory>
     requires within { Within G.valid G.left g.now (state p.old) }
     requires last { IsLast (state p.old) lhs lhs.kind.value }
-    ensures grew { OnOk result (Grew (state p.old) (state p.new) 0) }
     ensures script { OnOk result (Does (G.left g.now) (script.range_op in_arm) something (state p.old) (state p.new)) }
 {
     if p.at(T![...]) {
@@ -228,7 +225,6 @@ fn range_from_pat<G: Grammar>(
     requires last { IsLast (state p.old) lhs lhs.kind.value }
     requires here { At (state p.old) op }
     requires op { op ≢ EOF }
-    ensures grew { OnOk result (Grew (state p.old) (state p.new) 0) }
     ensures script { OnOk result
         (Does (G.left g.now) (script.range_from_pat in_arm op) something (state p.old) (state p.new)) }
 {
@@ -390,7 +386,7 @@ fn literal_pat(p: &mut Parser<'_>) -> Result<CompletedMarker, NoMemory>
 
 /// A path, as `a::B`, one with fields, as `B(x)` and `B { x }`, or a macro call, as `m!(x)`.
 #[inline(never)]
-#[tactic(auto, unfolding(rap_grammar_scripts::specs::Patterns::path_or_macro_pat))]
+#[tactic(auto, using(rap_grammar_facts::proofs::Patterns::facts), unfolding(rap_grammar_scripts::specs::Patterns::path_or_macro_pat))]
 fn path_or_macro_pat<G: Grammar>(p: &mut Parser<'_>, g: &G) -> Result<CompletedMarker, NoMemory>
     requires within { Within G.valid G.left g.now (state p.old) }
     requires path { holds is_path_start (state p.old).rest ≡ true }
@@ -425,11 +421,10 @@ fn path_or_macro_pat<G: Grammar>(p: &mut Parser<'_>, g: &G) -> Result<CompletedM
 }
 
 /// The fields of a tuple struct, as the `(a, ..)` of `S(a, ..)`.
-#[tactic(auto, unfolding(rap_grammar_scripts::specs::Patterns::tuple_pat_fields))]
+#[tactic(auto, using(rap_grammar_facts::proofs::Patterns::facts), unfolding(rap_grammar_scripts::specs::Patterns::tuple_pat_fields))]
 fn tuple_pat_fields<G: Grammar>(p: &mut Parser<'_>, g: &G) -> Result<(), NoMemory>
     requires within { Within G.valid G.left g.now (state p.old) }
     requires here { next (state p.old) ≡ L_PAREN }
-    ensures took { OnOk result (Took (state p.old) (state p.new) list_room) }
     ensures script { OnOk result (Does (G.left g.now) script.tuple_pat_fields something (state p.old) (state p.new)) }
 {
     p.bump(T!['('])?;
@@ -449,8 +444,6 @@ fn at_field(p: &Parser<'_>, separator: SyntaxKind) -> bool
 #[tactic(auto, using(rap_grammar_frame::proofs::Patterning::separator_next, rap_grammar_frame::proofs::Steps::by_skip), unfolding(rap_grammar_scripts::specs::Patterns::record_pat_field))]
 fn record_pat_field<G: Grammar>(p: &mut Parser<'_>, g: &G) -> Result<(), NoMemory>
     requires within { Within G.valid G.left g.now (state p.old) }
-    ensures grew { OnOk result (Grew (state p.old) (state p.new) recovery_events) }
-    ensures took { OnOk result (next (state p.old) ≢ EOF → Took (state p.old) (state p.new) atom_pattern_room) }
     ensures script { OnOk result (Does (G.left g.now) script.record_pat_field something (state p.old) (state p.new)) }
 {
     if at_field(p, T![:]) {
@@ -482,11 +475,10 @@ fn record_pat_field<G: Grammar>(p: &mut Parser<'_>, g: &G) -> Result<(), NoMemor
 }
 
 /// The fields of a record, as the `{ x, y: 1, .. }` of `S { x, y: 1, .. }`.
-#[tactic(auto, unfolding(rap_grammar_scripts::specs::Patterns::record_pat_field_list))]
+#[tactic(auto, using(rap_grammar_facts::proofs::Patterns::facts), unfolding(rap_grammar_scripts::specs::Patterns::record_pat_field_list))]
 fn record_pat_field_list<G: Grammar>(p: &mut Parser<'_>, g: &G) -> Result<(), NoMemory>
     requires within { Within G.valid G.left g.now (state p.old) }
     requires here { next (state p.old) ≡ L_CURLY }
-    ensures took { OnOk result (Took (state p.old) (state p.new) list_room) }
     ensures script { OnOk result
         (Does (G.left g.now) script.record_pat_field_list something (state p.old) (state p.new)) }
 {
@@ -499,10 +491,9 @@ fn record_pat_field_list<G: Grammar>(p: &mut Parser<'_>, g: &G) -> Result<(), No
 }
 
 /// What stands in the braces of a record.
-#[tactic(auto, using(rap_grammar_frame::proofs::Loops::turns), unfolding(rap_grammar_scripts::specs::Patterns::record_pat_fields))]
+#[tactic(auto, using(rap_grammar_frame::proofs::Loops::turns, rap_grammar_frame::proofs::Done::less_left), unfolding(rap_grammar_scripts::specs::Patterns::record_pat_fields))]
 fn record_pat_fields<G: Grammar>(p: &mut Parser<'_>, g: &G) -> Result<(), NoMemory>
     requires within { Within G.valid G.left g.now (state p.old) }
-    ensures grew { OnOk result (Grew (state p.old) (state p.new) 0) }
     ensures script { OnOk result (Does (G.left g.now) script.record_pat_fields something (state p.old) (state p.new)) }
 {
     'fields: while !p.at(SyntaxKind::EOF) && !p.at(T!['}']) {
@@ -512,13 +503,13 @@ fn record_pat_fields<G: Grammar>(p: &mut Parser<'_>, g: &G) -> Result<(), NoMemo
 }
 
 /// A field, and the comma after it unless it is the last.
+#[tactic(auto, using(rap_grammar_facts::proofs::Patterns::facts))]
 fn record_pat_turn<G: Grammar>(p: &mut Parser<'_>, g: &G) -> Result<(), NoMemory>
     requires within { Within G.valid G.left g.now (state p.old) }
     requires more { next (state p.old) ≢ EOF }
     requires open { next (state p.old) ≢ R_CURLY }
-    ensures took { OnOk result (Took (state p.old) (state p.new) pattern_room) }
-    ensures script { OnOk result ((a b : Bool) →
-        Does (G.left g.now) (script.record_pat_turn a b) (again a b) (state p.old) (state p.new)) }
+    ensures script { OnOk result
+        (Does (G.left g.now) (script.record_pat_turn false false) (again false false) (state p.old) (state p.new)) }
 {
     record_pat_element(p, g)?;
     if !p.at(T!['}']) {
@@ -529,11 +520,9 @@ fn record_pat_turn<G: Grammar>(p: &mut Parser<'_>, g: &G) -> Result<(), NoMemory
 }
 
 /// A field with its attributes, as `#[a] x: 1`, or the `..` that stands for the other fields.
-#[tactic(auto, unfolding(rap_grammar_scripts::specs::Patterns::record_pat_element))]
+#[tactic(auto, using(rap_grammar_facts::proofs::Patterns::facts), unfolding(rap_grammar_scripts::specs::Patterns::record_pat_element))]
 fn record_pat_element<G: Grammar>(p: &mut Parser<'_>, g: &G) -> Result<(), NoMemory>
     requires within { Within G.valid G.left g.now (state p.old) }
-    requires more { next (state p.old) ≢ EOF }
-    ensures took { OnOk result (Took (state p.old) (state p.new) single_pattern_room) }
     ensures script { OnOk result (Does (G.left g.now) script.record_pat_element something (state p.old) (state p.new)) }
 {
     let m = p.start()?;
