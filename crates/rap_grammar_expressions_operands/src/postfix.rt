@@ -8,9 +8,9 @@ ghost use Rattle.rap_events.specs.State.{state, IsLast, but_last, next};
 ghost use Rattle.rap_grammar_scripts.specs.Postfix as script;
 ghost use Rattle.rap_grammar_scripts.specs.Words.{of_like, is_block, of_bool};
 ghost use Rattle.rap_grammar_scripts.specs.Postfix.{is_method_call};
-ghost use Rattle.rap_grammar_frame.specs.Grew.{Within, Grew, Wraps, Behind, Closes, Took};
+ghost use Rattle.rap_grammar_frame.specs.Grew.{Within, Wraps, Behind, Closes};
 ghost use Rattle.rap_grammar_scripts.specs.Exec.{Does};
-ghost use Rattle.rap_grammar_frame.specs.Room.{operand_room, arguments_room, recovery_events};
+ghost use Rattle.rap_grammar_frame.specs.Room.{operand_room, recovery_events};
 ghost use Rattle.rap_grammar_scripts.specs.Script.{something, block, again};
 ghost use Rattle.rap_grammar_scripts.specs.Test.{holds};
 
@@ -41,7 +41,6 @@ pub fn postfix_expr<G: Grammar>(
     requires within { Within G.valid G.left g.now (state p.old) }
     requires last { IsLast (state p.old) lhs lhs.kind.value }
     requires plain { is_plain lhs.kind.value ≡ true }
-    ensures grew { OnOk result (Grew (state p.old) (state p.new) 0) }
     ensures last { IfOk result (λ e. IsLast (state p.new) e.0 e.0.kind.value) }
     ensures plain { IfOk result (λ e. is_plain e.0.kind.value ≡ true) }
     ensures one { OnOk result (but_last (state p.new).forest ≡ but_last (state p.old).forest) }
@@ -72,8 +71,6 @@ fn postfix<G: Grammar>(
     requires within { Within G.valid G.left g.now (state p.old) }
     requires last { IsLast (state p.old) lhs lhs.kind.value }
     requires plain { is_plain lhs.kind.value ≡ true }
-    ensures grew { OnOk result (Grew (state p.old) (state p.new) 0) }
-    ensures less { IfOk result (λ e. e.1 ≡ true → (state p.new).left < (state p.old).left) }
     ensures last { IfOk result (λ e. IsLast (state p.new) e.0 e.0.kind.value) }
     ensures plain { IfOk result (λ e. is_plain e.0.kind.value ≡ true) }
     ensures one { OnOk result (but_last (state p.new).forest ≡ but_last (state p.old).forest) }
@@ -186,7 +183,7 @@ fn is_method_call(p: &Parser<'_>) -> bool
 
 /// A call, as `(1)` after `f`.
 #[inline(never)]
-#[tactic(auto, unfolding(rap_grammar_scripts::specs::Postfix::call_expr))]
+#[tactic(auto, using(rap_grammar_facts::proofs::Postfix::facts), unfolding(rap_grammar_scripts::specs::Postfix::call_expr))]
 fn call_expr<G: Grammar>(
     p: &mut Parser<'_>,
     g: &G,
@@ -249,7 +246,7 @@ fn method_call_expr<G: Grammar>(
 }
 
 /// The arguments of a method after its name, as `(1)` and `::<T>(1)`.
-#[tactic(auto, unfolding(rap_grammar_scripts::specs::Postfix::method_arguments))]
+#[tactic(auto, using(rap_grammar_facts::proofs::Postfix::facts), unfolding(rap_grammar_scripts::specs::Postfix::method_arguments))]
 fn method_arguments<G: Grammar>(
     p: &mut Parser<'_>,
     g: &G,
@@ -340,7 +337,6 @@ impl Element for Argument {
 fn arg_list<G: Grammar>(p: &mut Parser<'_>, g: &G) -> Result<(), NoMemory>
     requires within { Within G.valid G.left g.now (state p.old) }
     requires here { next (state p.old) ≡ L_PAREN }
-    ensures took { OnOk result (Took (state p.old) (state p.new) arguments_room) }
     ensures script { OnOk result (Does (G.left g.now) script.arg_list something (state p.old) (state p.new)) }
 {
     let m = p.start()?;

@@ -1,15 +1,15 @@
 //! Record literals.
 //! In the Rust crate: `grammar/expressions.rs`.
-ghost use Rattle.std.specs.Prelude.{ℕ, ◌≡◌, ◌≢◌, ◌<◌, ◌≤◌, OnOk, Some, true, ◌⊎◌};
+ghost use Rattle.std.specs.Prelude.{◌≡◌, ◌≢◌, ◌<◌, ◌≤◌, OnOk, Some, true};
 ghost use Rattle.rap_base.specs.NodeKind.{RECORD_EXPR_FIELD_LIST};
 ghost use Rattle.rap_base.specs.TokenKind.{EOF, L_CURLY};
 ghost use Rattle.rap_events.specs.Forest.{node};
 ghost use Rattle.rap_events.specs.State.{state, last_children, next};
-ghost use Rattle.rap_grammar_frame.specs.Grew.{Within, Behind, Took, Grew, Gone, Spent};
+ghost use Rattle.rap_grammar_frame.specs.Grew.{Within, Behind};
 ghost use Rattle.rap_grammar_scripts.specs.Exec.{Does};
+ghost use Rattle.rap_grammar_facts.specs.Alone.{DoesAlone};
 ghost use Rattle.rap_grammar_scripts.specs.Records as script;
 ghost use Rattle.rap_grammar_scripts.specs.Records.{is_field_name};
-ghost use Rattle.rap_grammar_frame.specs.Room.{list_room, name_room, field_room, marked_field_room};
 ghost use Rattle.rap_grammar_scripts.specs.Script.{something};
 
 use rap_base::T;
@@ -23,11 +23,10 @@ use rap_grammar_frame::names::name_ref_or_index;
 use rap_grammar_frame::through_knot::expr;
 
 /// The fields of a record in their braces, as `{ a: b, ..c }`.
-#[tactic(auto, unfolding(rap_grammar_scripts::specs::Records::record_expr_field_list))]
+#[tactic(auto, using(rap_grammar_facts::proofs::Records::facts), unfolding(rap_grammar_scripts::specs::Records::record_expr_field_list))]
 pub fn record_expr_field_list<G: Grammar>(p: &mut Parser<'_>, g: &G) -> Result<(), NoMemory>
     requires within { Within G.valid G.left g.now (state p.old) }
     requires here { next (state p.old) ≡ L_CURLY }
-    ensures took { OnOk result (Took (state p.old) (state p.new) list_room) }
     ensures one { OnOk result
         ((state p.new).forest ≡ node (state p.old).forest RECORD_EXPR_FIELD_LIST (last_children (state p.new).forest)) }
     ensures script { OnOk result
@@ -42,10 +41,9 @@ pub fn record_expr_field_list<G: Grammar>(p: &mut Parser<'_>, g: &G) -> Result<(
 }
 
 /// The fields of a record, up to the brace that closes it.
-#[tactic(auto, using(rap_grammar_frame::proofs::Loops::turns), unfolding(rap_grammar_scripts::specs::Records::record_fields))]
+#[tactic(auto, using(rap_grammar_facts::proofs::Records::facts, rap_grammar_frame::proofs::Loops::turns), unfolding(rap_grammar_scripts::specs::Records::record_fields))]
 fn record_fields<G: Grammar>(p: &mut Parser<'_>, g: &G) -> Result<(), NoMemory>
     requires behind { Behind G.valid G.left g.now (state p.old) }
-    ensures grew { OnOk result (Grew (state p.old) (state p.new) 0) }
     ensures script { OnOk result (Does (G.left g.now) script.record_fields something (state p.old) (state p.new)) }
 {
     'fields: while !p.at(SyntaxKind::EOF) && !p.at(T!['}']) {
@@ -58,11 +56,9 @@ fn record_fields<G: Grammar>(p: &mut Parser<'_>, g: &G) -> Result<(), NoMemory>
 }
 
 /// A field with its attributes, as `#[a] b: c`.
-#[tactic(auto, unfolding(rap_grammar_scripts::specs::Records::record_field))]
+#[tactic(auto, using(rap_grammar_facts::proofs::Records::facts), unfolding(rap_grammar_scripts::specs::Records::record_field))]
 fn record_field<G: Grammar>(p: &mut Parser<'_>, g: &G) -> Result<(), NoMemory>
     requires behind { Behind G.valid G.left g.now (state p.old) }
-    requires more { next (state p.old) ≢ EOF }
-    ensures took { OnOk result (Took (state p.old) (state p.new) field_room) }
     ensures script { OnOk result (Does (G.left g.now) script.record_field something (state p.old) (state p.new)) }
 {
     let m = p.start()?;
@@ -79,12 +75,10 @@ fn is_field_name(kind: SyntaxKind) -> bool
 }
 
 /// A field from its marker on, or the base of a record, as `..c`.
-#[tactic(auto, unfolding(rap_grammar_scripts::specs::Records::marked_field))]
+#[tactic(auto, using(rap_grammar_facts::proofs::Records::facts), unfolding(rap_grammar_scripts::specs::Records::marked_field))]
 fn marked_field<G: Grammar>(p: &mut Parser<'_>, g: &G, m: Marker) -> Result<(), NoMemory>
     requires behind { Behind G.valid G.left g.now (state p.old) }
     requires newest { (state p.old).marker ≡ Some m.pos.value }
-    ensures gone { OnOk result (Gone (state p.old) (state p.new) 4) }
-    ensures spent { OnOk result (next (state p.old) ≢ EOF → Spent (state p.old) (state p.new) marked_field_room) }
     ensures script { OnOk result (Does (G.left g.now) script.marked_field something (state p.old) (state p.new)) }
 {
     if is_field_name(p.current()) {
@@ -108,13 +102,11 @@ fn marked_field<G: Grammar>(p: &mut Parser<'_>, g: &G, m: Marker) -> Result<(), 
 }
 
 /// A field that begins with a name, from its marker on, as `a: b`, `a` and `0: b`.
-#[tactic(auto, unfolding(rap_grammar_scripts::specs::Records::named_field))]
+#[tactic(auto, using(rap_grammar_facts::proofs::Records::facts), unfolding(rap_grammar_scripts::specs::Records::named_field))]
 fn named_field<G: Grammar>(p: &mut Parser<'_>, g: &G, m: Marker) -> Result<(), NoMemory>
     requires behind { Behind G.valid G.left g.now (state p.old) }
     requires newest { (state p.old).marker ≡ Some m.pos.value }
     requires name { is_field_name (next (state p.old)) ≡ true }
-    ensures gone { OnOk result (Gone (state p.old) (state p.new) 0) }
-    ensures spent { OnOk result (Spent (state p.old) (state p.new) marked_field_room) }
     ensures script { OnOk result (Does (G.left g.now) script.named_field something (state p.old) (state p.new)) }
 {
     if p.nth_at(1, T![::]) {
@@ -134,13 +126,10 @@ fn named_field<G: Grammar>(p: &mut Parser<'_>, g: &G, m: Marker) -> Result<(), N
 }
 
 /// The base of a record whose dots are missing, as `a::b()`.
-#[tactic(auto, using(crate::proofs::Fields::base_spent, rap_grammar_frame::proofs::Steps::by_report), unfolding(rap_grammar_scripts::specs::Records::base_without_dots))]
+#[tactic(auto, using(rap_grammar_frame::proofs::Steps::by_report), unfolding(rap_grammar_scripts::specs::Records::base_without_dots))]
 fn base_without_dots<G: Grammar>(p: &mut Parser<'_>, g: &G, m: Marker) -> Result<(), NoMemory>
     requires behind { Behind G.valid G.left g.now (state p.old) }
     requires newest { (state p.old).marker ≡ Some m.pos.value }
-    requires name { is_field_name (next (state p.old)) ≡ true }
-    ensures gone { OnOk result (Gone (state p.old) (state p.new) 0) }
-    ensures spent { OnOk result (Spent (state p.old) (state p.new) marked_field_room) }
     ensures script { OnOk result (Does (G.left g.now) script.base_without_dots something (state p.old) (state p.new)) }
 {
     m.abandon(p)?;
@@ -153,8 +142,7 @@ fn base_without_dots<G: Grammar>(p: &mut Parser<'_>, g: &G, m: Marker) -> Result
 #[tactic(auto, unfolding(rap_grammar_scripts::specs::Records::field_name))]
 fn field_name(p: &mut Parser<'_>) -> Result<(), NoMemory>
     requires more { next (state p.old) ≢ EOF }
-    ensures took { OnOk result ((state p.new ≡ state p.old) ⊎ Took (state p.old) (state p.new) name_room) }
-    ensures script { OnOk result ((depth : ℕ) → Does depth script.field_name something (state p.old) (state p.new)) }
+    ensures script { OnOk result (DoesAlone script.field_name something (state p.old) (state p.new)) }
 {
     if p.nth_at(1, T![:]) {
         name_ref_or_index(p)?;
@@ -173,7 +161,6 @@ fn field_name(p: &mut Parser<'_>) -> Result<(), NoMemory>
 #[tactic(auto, unfolding(rap_grammar_scripts::specs::Records::base_of_record))]
 fn base_of_record<G: Grammar>(p: &mut Parser<'_>, g: &G) -> Result<(), NoMemory>
     requires behind { Behind G.valid G.left g.now (state p.old) }
-    ensures grew { OnOk result (Grew (state p.old) (state p.new) 9) }
     ensures script { OnOk result (Does (G.left g.now) script.base_of_record something (state p.old) (state p.new)) }
 {
     if p.at(T!['}']) {

@@ -7,11 +7,9 @@ use Rattle.rap_grammar_scripts.specs.Effects.{level}
 use Rattle.rap_grammar_scripts.specs.Exec.{Does}
 use Rattle.rap_grammar_scripts.specs.Script.{Outcome}
 use Rattle.rap_grammar_scripts.specs.declared.arguments.Restrictions.{Restrictions}
-use Rattle.rap_grammar_frame.specs.Grew.{Grew}
 use Rattle.rap_grammar_frame.proofs.Done.{moved}
 use Rattle.rap_grammar_facts.specs.Alone.{DoesAlone}
 use Rattle.rap_grammar_facts.proofs.Alone.{kept}
-use Rattle.rap_grammar_facts.proofs.Grown.{grown}
 use Rattle.rap_grammar_scripts.proofs.Scripts.{scripts}
 use Rattle.rap_grammar_scripts.specs.Atom as script
 
@@ -22,12 +20,6 @@ level_path_expr a = refl
 pub level_tuple_elements : level script.tuple_elements ≡ true
 unfolding scripts
 level_tuple_elements = refl
-
-pub grew_tuple_elements : {n : ℕ} {v : Outcome} → (p q : Parser) →
-    Does n script.tuple_elements v (state p) (state q) →
-    Grew (state p) (state q) 20
-unfolding scripts
-grew_tuple_elements p q d = grown 20 p q d refl
 
 pub level_tuple_expr : level script.tuple_expr ≡ true
 unfolding scripts
@@ -49,12 +41,6 @@ level_after_element false false = refl
 pub level_array_elements : level script.array_elements ≡ true
 unfolding scripts
 level_array_elements = refl
-
-pub grew_array_elements : {n : ℕ} {v : Outcome} → (p q : Parser) →
-    Does n script.array_elements v (state p) (state q) →
-    Grew (state p) (state q) 40
-unfolding scripts
-grew_array_elements p q d = grown 40 p q d refl
 
 pub level_array_expr : level script.array_expr ≡ true
 unfolding scripts
@@ -97,12 +83,10 @@ pub ruleset facts = (
   kept,
   level_path_expr,
   level_tuple_elements,
-  grew_tuple_elements,
   level_tuple_expr,
   moved_tuple_expr,
   level_after_element,
   level_array_elements,
-  grew_array_elements,
   level_array_expr,
   moved_array_expr,
   level_underscore_expr,

@@ -178,7 +178,7 @@ fn starts_record(p: &Parser<'_>, r: Restrictions) -> bool
 
 /// A path, as `a::b`, a record literal, as `a { b: c }`, or a macro call, as `a!(b)`.
 #[inline(never)]
-#[tactic(auto, unfolding(rap_grammar_scripts::specs::Atom::path_expr))]
+#[tactic(auto, using(rap_grammar_facts::proofs::Records::took_record_expr_field_list), unfolding(rap_grammar_scripts::specs::Atom::path_expr))]
 fn path_expr<G: Grammar>(
     p: &mut Parser<'_>,
     g: &G,

@@ -1,6 +1,6 @@
 //! Operators before an operand and between two.
 //! In the Rust crate: `grammar/expressions.rs`.
-ghost use Rattle.std.specs.Prelude.{ℕ, ◌≡◌, ◌≢◌, ◌+◌, ◌<◌, ◌≤◌, ◌↔◌, ◌∷◌, IfOk, OnOk, true, false, []};
+ghost use Rattle.std.specs.Prelude.{◌≡◌, ◌≢◌, ◌+◌, ◌<◌, ◌≤◌, ◌↔◌, ◌∷◌, IfOk, OnOk, true, false, []};
 ghost use Rattle.rap_base.specs.TokenKind.{EOF, AS_KW, MUT_KW, CONST_KW, IDENT, AMP};
 ghost use Rattle.rap_base.specs.NodeKind.{BIN_EXPR, CAST_EXPR, REF_EXPR, PREFIX_EXPR};
 ghost use Rattle.rap_events.specs.Power.{power};
@@ -11,6 +11,7 @@ ghost use Rattle.rap_grammar_scripts.specs.Operators as script;
 ghost use Rattle.rap_grammar_scripts.specs.First.{one_of};
 ghost use Rattle.rap_grammar_frame.specs.Grew.{Within, Grew, Wraps, Makes};
 ghost use Rattle.rap_grammar_scripts.specs.Exec.{Does};
+ghost use Rattle.rap_grammar_facts.specs.Alone.{DoesAlone};
 ghost use Rattle.rap_grammar_scripts.specs.Operator.{operator_at};
 ghost use Rattle.rap_grammar_frame.specs.Room.{operand_room};
 ghost use Rattle.rap_grammar_scripts.specs.Script.{something};
@@ -202,8 +203,7 @@ fn right_power(bp: u8, associativity: Associativity) -> u8
 /// Elsewhere `raw` is a name itself, as in `&raw.b`.
 #[tactic(auto, unfolding(rap_grammar_scripts::specs::Operators::ref_qualifier))]
 fn ref_qualifier(p: &mut Parser<'_>) -> Result<(), NoMemory>
-    ensures grew { OnOk result (Grew (state p.old) (state p.new) 0) }
-    ensures script { OnOk result ((depth : ℕ) → Does depth script.ref_qualifier something (state p.old) (state p.new)) }
+    ensures script { OnOk result (DoesAlone script.ref_qualifier something (state p.old) (state p.new)) }
 {
     if p.at_contextual_kw(T![raw]) && is_raw_follow(p.nth(1)) {
         p.bump_remap(T![raw])?;
@@ -226,7 +226,7 @@ fn is_raw_follow(kind: SyntaxKind) -> bool
 
 /// A reference, as `&a`, `&mut a` and `&raw const a`.
 #[inline(never)]
-#[tactic(auto, unfolding(rap_grammar_scripts::specs::Operators::ref_expr))]
+#[tactic(auto, using(rap_grammar_facts::proofs::Operators::facts), unfolding(rap_grammar_scripts::specs::Operators::ref_expr))]
 pub(crate) fn ref_expr<G: Grammar>(
     p: &mut Parser<'_>,
     g: &G,
