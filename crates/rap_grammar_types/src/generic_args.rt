@@ -1,11 +1,12 @@
 //! Generic arguments.
-ghost use Rattle.std.specs.Prelude.{ℕ, ◌≡◌, ◌<◌, OnOk, true, Some};
+ghost use Rattle.std.specs.Prelude.{◌≡◌, ◌<◌, OnOk, true, Some};
 ghost use Rattle.rap_base.specs.TokenKind.{LIFETIME_IDENT, COLON, BANG};
 ghost use Rattle.rap_events.specs.State.{state, next, IsLast};
 ghost use Rattle.rap_grammar_scripts.specs.First.{is_const_arg_first, is_generic_arg_first, is_type_first, is_path_name};
 ghost use Rattle.rap_grammar_scripts.specs.GenericArgs as script;
-ghost use Rattle.rap_grammar_frame.specs.Grew.{Within, Took, Behind, Grew, Ended};
+ghost use Rattle.rap_grammar_frame.specs.Grew.{Within, Took, Behind};
 ghost use Rattle.rap_grammar_scripts.specs.Exec.{Does};
+ghost use Rattle.rap_grammar_facts.specs.Alone.{DoesAlone};
 ghost use Rattle.rap_grammar_scripts.specs.Recovery.{is_generic_arg_recovery};
 ghost use Rattle.rap_grammar_frame.specs.Room.{element_room};
 ghost use Rattle.rap_grammar_scripts.specs.Script.{something};
@@ -26,7 +27,7 @@ use rap_grammar_generics::generic_params::bounds;
 use rap_grammar_paths::paths::{opt_path_type_args, type_path_for_qualifier};
 
 /// An argument, as `'a`, `1`, `a`, `a = b` and `a: b`.
-#[tactic(auto, unfolding(rap_grammar_scripts::specs::GenericArgs::generic_arg))]
+#[tactic(auto, using(rap_grammar_facts::proofs::GenericArgs::took_lifetime_arg, rap_grammar_facts::proofs::GenericArgs::took_named_arg, rap_grammar_facts::proofs::ConstArgs::took_const_arg), unfolding(rap_grammar_scripts::specs::GenericArgs::generic_arg))]
 pub fn generic_arg<G: Grammar>(p: &mut Parser<'_>, g: &G) -> Result<(), NoMemory>
     requires within { Within G.valid G.left g.now (state p.old) }
     requires first { is_generic_arg_first (next (state p.old)) ≡ true }
@@ -61,8 +62,7 @@ fn starts_lifetime_arg(p: &Parser<'_>) -> bool
 #[tactic(auto, unfolding(rap_grammar_scripts::specs::GenericArgs::lifetime_arg))]
 fn lifetime_arg(p: &mut Parser<'_>) -> Result<(), NoMemory>
     requires here { next (state p.old) ≡ LIFETIME_IDENT }
-    ensures took { OnOk result (Took (state p.old) (state p.new) element_room) }
-    ensures script { OnOk result ((depth : ℕ) → Does depth script.lifetime_arg something (state p.old) (state p.new)) }
+    ensures script { OnOk result (DoesAlone script.lifetime_arg something (state p.old) (state p.new)) }
 {
     let m = p.start()?;
     lifetime(p)?;
@@ -101,11 +101,10 @@ fn starts_bounds(p: &Parser<'_>) -> bool
 }
 
 /// An argument that begins with a name, as `a::b<c>`, `a = b` and `a<b>: c`.
-#[tactic(auto, unfolding(rap_grammar_scripts::specs::GenericArgs::named_arg))]
+#[tactic(auto, using(rap_grammar_frame::proofs::Done::marker_kept, rap_grammar_facts::proofs::GenericArgs::level_assoc_value), unfolding(rap_grammar_scripts::specs::GenericArgs::named_arg))]
 fn named_arg<G: Grammar>(p: &mut Parser<'_>, g: &G) -> Result<(), NoMemory>
     requires within { Within G.valid G.left g.now (state p.old) }
     requires name { is_path_name (next (state p.old)) ≡ true }
-    ensures took { OnOk result (Took (state p.old) (state p.new) element_room) }
     ensures script { OnOk result (Does (G.left g.now) script.named_arg something (state p.old) (state p.new)) }
 {
     let m = p.start()?;
@@ -131,7 +130,6 @@ fn named_arg<G: Grammar>(p: &mut Parser<'_>, g: &G) -> Result<(), NoMemory>
 #[tactic(auto, unfolding(rap_grammar_scripts::specs::GenericArgs::assoc_value))]
 fn assoc_value<G: Grammar>(p: &mut Parser<'_>, g: &G) -> Result<(), NoMemory>
     requires behind { Behind G.valid G.left g.now (state p.old) }
-    ensures grew { OnOk result (Grew (state p.old) (state p.new) 8) }
     ensures script { OnOk result (Does (G.left g.now) script.assoc_value something (state p.old) (state p.new)) }
 {
     if is_type_first(p.current()) {
@@ -154,11 +152,10 @@ fn is_generic_arg_recovery(kind: SyntaxKind) -> bool
 }
 
 /// A path from its first segment on, as a type, as `a::b`, or a macro call, as `a!()`.
-#[tactic(auto, unfolding(rap_grammar_scripts::specs::GenericArgs::path_arg))]
+#[tactic(auto, using(rap_grammar_facts::proofs::GenericArgs::facts), unfolding(rap_grammar_scripts::specs::GenericArgs::path_arg))]
 fn path_arg<G: Grammar>(p: &mut Parser<'_>, g: &G, segment: CompletedMarker) -> Result<(), NoMemory>
     requires behind { Behind G.valid G.left g.now (state p.old) }
     requires last { IsLast (state p.old) segment segment.kind.value }
-    ensures grew { OnOk result (Grew (state p.old) (state p.new) 24) }
     ensures script { OnOk result (Does (G.left g.now) script.path_arg something (state p.old) (state p.new)) }
 {
     let m = segment.precede(p)?;
@@ -180,7 +177,6 @@ fn macro_arg<G: Grammar>(p: &mut Parser<'_>, g: &G, m: Marker) -> Result<(), NoM
     requires behind { Behind G.valid G.left g.now (state p.old) }
     requires newest { (state p.old).marker ≡ Some m.pos.value }
     requires here { next (state p.old) ≡ BANG }
-    ensures ended { OnOk result (Ended (state p.old) (state p.new) element_room) }
     ensures script { OnOk result (Does (G.left g.now) script.macro_arg something (state p.old) (state p.new)) }
 {
     macro_call_after_excl(p)?;
@@ -201,7 +197,6 @@ fn bounded_arg<G: Grammar>(
 ) -> Result<(), NoMemory>
     requires behind { Behind G.valid G.left g.now (state p.old) }
     requires last { IsLast (state p.old) ty kind }
-    ensures grew { OnOk result (Grew (state p.old) (state p.new) 18) }
     ensures script { OnOk result (Does (G.left g.now) (script.bounded_arg kind) something (state p.old) (state p.new)) }
 {
     let ty = opt_type_bounds_as_dyn_trait_type(p, g, ty, kind)?;

@@ -1,12 +1,13 @@
 //! Types.
 ghost use Rattle.std.specs.Prelude.{ℕ, ◌≡◌, ◌≢◌, ◌<◌, OnOk, IsTrue, IfOk, Some, true};
-ghost use Rattle.rap_base.specs.TokenKind.{DYN_KW, L_PAREN, BANG, STAR, L_BRACK, SEMICOLON, AMP, UNDERSCORE, FN_KW, FOR_KW, IMPL_KW, LIFETIME_IDENT, BUILTIN_KW, POUND};
+ghost use Rattle.rap_base.specs.TokenKind.{DYN_KW, L_PAREN, BANG, STAR, L_BRACK, SEMICOLON, AMP, UNDERSCORE, FOR_KW, IMPL_KW, LIFETIME_IDENT, BUILTIN_KW, POUND};
 ghost use Rattle.rap_base.specs.NodeKind.{PATH_TYPE};
-ghost use Rattle.rap_events.specs.State.{state, next, ReadsAs, IsLast, but_last, NthAt};
+ghost use Rattle.rap_events.specs.State.{state, next, ReadsAs, IsLast, NthAt};
 ghost use Rattle.rap_grammar_scripts.specs.First.{starts_weak_dyn, is_weak_dyn_path_first, is_dyn_weak, is_fn_ptr_first, is_path_start};
-ghost use Rattle.rap_grammar_frame.specs.Grew.{Within, Took, Behind, Grew, Gone};
+ghost use Rattle.rap_grammar_frame.specs.Grew.{Within, Took, Behind};
 ghost use Rattle.rap_grammar_scripts.specs.Exec.{Does};
-ghost use Rattle.rap_grammar_frame.specs.Room.{type_room, list_room, name_room};
+ghost use Rattle.rap_grammar_facts.specs.Alone.{DoesAlone};
+ghost use Rattle.rap_grammar_frame.specs.Room.{type_room};
 ghost use Rattle.rap_grammar_frame.specs.Rules.{IsType};
 ghost use Rattle.rap_grammar_scripts.specs.Script.{something};
 ghost use Rattle.rap_grammar_scripts.specs.Test.{holds};
@@ -32,7 +33,7 @@ use rap_grammar_params::params::param_list_fn_ptr;
 use rap_grammar_paths::paths::type_path;
 
 /// A type, as `&a` and `[a; 1]`, with bounds after it, as `a + b`, where they are allowed.
-#[tactic(auto, unfolding(rap_grammar_scripts::specs::Types::type_with_bounds_cond))]
+#[tactic(auto, using(rap_grammar_facts::proofs::Types::reads_never_type, rap_grammar_facts::proofs::Types::reads_infer_type), unfolding(rap_grammar_scripts::specs::Types::type_with_bounds_cond))]
 pub fn type_with_bounds_cond<G: Grammar>(
     p: &mut Parser<'_>,
     g: &G,
@@ -141,11 +142,10 @@ pub(crate) fn starts_weak_dyn(p: &Parser<'_>) -> bool
 
 /// A type in parentheses, as `(a)`, or a tuple of types, as `()`, `(a,)` and `(a, b)`.
 #[inline(never)]
-#[tactic(auto, unfolding(rap_grammar_scripts::specs::Types::paren_or_tuple_type))]
+#[tactic(auto, using(rap_grammar_frame::proofs::Done::marker_kept, rap_grammar_facts::proofs::Types::level_tuple_types), unfolding(rap_grammar_scripts::specs::Types::paren_or_tuple_type))]
 fn paren_or_tuple_type<G: Grammar>(p: &mut Parser<'_>, g: &G) -> Result<(), NoMemory>
     requires within { Within G.valid G.left g.now (state p.old) }
     requires here { next (state p.old) ≡ L_PAREN }
-    ensures took { OnOk result (Took (state p.old) (state p.new) type_room) }
     ensures script { OnOk result
         (Does (G.left g.now) script.paren_or_tuple_type something (state p.old) (state p.new)) }
 {
@@ -163,10 +163,9 @@ fn paren_or_tuple_type<G: Grammar>(p: &mut Parser<'_>, g: &G) -> Result<(), NoMe
 }
 
 /// What stands in parentheses. Returns whether it is one type and no comma.
-#[tactic(auto, using(rap_grammar_frame::proofs::Loops::turns), unfolding(rap_grammar_scripts::specs::Types::tuple_types))]
+#[tactic(auto, using(rap_grammar_facts::proofs::Types::facts, rap_grammar_frame::proofs::Loops::turns), unfolding(rap_grammar_scripts::specs::Types::tuple_types))]
 fn tuple_types<G: Grammar>(p: &mut Parser<'_>, g: &G) -> Result<bool, NoMemory>
     requires behind { Behind G.valid G.left g.now (state p.old) }
-    ensures grew { OnOk result (Grew (state p.old) (state p.new) 8) }
     ensures script { IfOk result
         (λ parens. Does (G.left g.now) script.tuple_types (of_bool parens) (state p.old) (state p.new)) }
 {
@@ -186,8 +185,7 @@ fn tuple_types<G: Grammar>(p: &mut Parser<'_>, g: &G) -> Result<bool, NoMemory>
 #[tactic(auto, unfolding(rap_grammar_scripts::specs::Types::never_type))]
 fn never_type(p: &mut Parser<'_>) -> Result<(), NoMemory>
     requires here { next (state p.old) ≡ BANG }
-    ensures took { OnOk result (Took (state p.old) (state p.new) type_room) }
-    ensures script { OnOk result ((depth : ℕ) → Does depth script.never_type something (state p.old) (state p.new)) }
+    ensures script { OnOk result (DoesAlone script.never_type something (state p.old) (state p.new)) }
 {
     let m = p.start()?;
     p.bump(T![!])?;
@@ -196,11 +194,10 @@ fn never_type(p: &mut Parser<'_>) -> Result<(), NoMemory>
 }
 
 /// A pointer, as `*const a`.
-#[tactic(auto, unfolding(rap_grammar_scripts::specs::Types::ptr_type))]
+#[tactic(auto, using(rap_grammar_facts::proofs::Types::facts), unfolding(rap_grammar_scripts::specs::Types::ptr_type))]
 fn ptr_type<G: Grammar>(p: &mut Parser<'_>, g: &G) -> Result<(), NoMemory>
     requires within { Within G.valid G.left g.now (state p.old) }
     requires here { next (state p.old) ≡ STAR }
-    ensures took { OnOk result (Took (state p.old) (state p.new) type_room) }
     ensures script { OnOk result (Does (G.left g.now) script.ptr_type something (state p.old) (state p.new)) }
 {
     let m = p.start()?;
@@ -215,8 +212,7 @@ fn ptr_type<G: Grammar>(p: &mut Parser<'_>, g: &G) -> Result<(), NoMemory>
 #[inline(never)]
 #[tactic(auto, unfolding(rap_grammar_scripts::specs::Types::ptr_qualifier))]
 fn ptr_qualifier(p: &mut Parser<'_>) -> Result<(), NoMemory>
-    ensures grew { OnOk result (Grew (state p.old) (state p.new) 1) }
-    ensures script { OnOk result ((depth : ℕ) → Does depth script.ptr_qualifier something (state p.old) (state p.new)) }
+    ensures script { OnOk result (DoesAlone script.ptr_qualifier something (state p.old) (state p.new)) }
 {
     if matches!(p.current(), T![mut] | T![const]) {
         p.bump_any()?;
@@ -230,11 +226,10 @@ fn ptr_qualifier(p: &mut Parser<'_>) -> Result<(), NoMemory>
 
 /// An array with its length, as `[a; 1]`, or a slice, as `[a]`.
 #[inline(never)]
-#[tactic(auto, unfolding(rap_grammar_scripts::specs::Types::array_or_slice_type))]
+#[tactic(auto, using(rap_grammar_frame::proofs::Done::marker_kept, rap_grammar_facts::proofs::Types::level_array_length), unfolding(rap_grammar_scripts::specs::Types::array_or_slice_type))]
 fn array_or_slice_type<G: Grammar>(p: &mut Parser<'_>, g: &G) -> Result<(), NoMemory>
     requires within { Within G.valid G.left g.now (state p.old) }
     requires here { next (state p.old) ≡ L_BRACK }
-    ensures took { OnOk result (Took (state p.old) (state p.new) type_room) }
     ensures script { OnOk result
         (Does (G.left g.now) script.array_or_slice_type something (state p.old) (state p.new)) }
 {
@@ -261,7 +256,6 @@ fn array_or_slice_type<G: Grammar>(p: &mut Parser<'_>, g: &G) -> Result<(), NoMe
 fn array_length<G: Grammar>(p: &mut Parser<'_>, g: &G) -> Result<(), NoMemory>
     requires within { Within G.valid G.left g.now (state p.old) }
     requires here { next (state p.old) ≡ SEMICOLON }
-    ensures took { OnOk result (Took (state p.old) (state p.new) list_room) }
     ensures script { OnOk result (Does (G.left g.now) script.array_length something (state p.old) (state p.new)) }
 {
     p.bump(T![;])?;
@@ -278,7 +272,6 @@ fn array_length<G: Grammar>(p: &mut Parser<'_>, g: &G) -> Result<(), NoMemory>
 fn ref_type<G: Grammar>(p: &mut Parser<'_>, g: &G) -> Result<(), NoMemory>
     requires within { Within G.valid G.left g.now (state p.old) }
     requires here { next (state p.old) ≡ AMP }
-    ensures took { OnOk result (Took (state p.old) (state p.new) type_room) }
     ensures script { OnOk result (Does (G.left g.now) script.ref_type something (state p.old) (state p.new)) }
 {
     let m = p.start()?;
@@ -297,8 +290,7 @@ fn ref_type<G: Grammar>(p: &mut Parser<'_>, g: &G) -> Result<(), NoMemory>
 #[tactic(auto, unfolding(rap_grammar_scripts::specs::Types::infer_type))]
 fn infer_type(p: &mut Parser<'_>) -> Result<(), NoMemory>
     requires here { next (state p.old) ≡ UNDERSCORE }
-    ensures took { OnOk result (Took (state p.old) (state p.new) type_room) }
-    ensures script { OnOk result ((depth : ℕ) → Does depth script.infer_type something (state p.old) (state p.new)) }
+    ensures script { OnOk result (DoesAlone script.infer_type something (state p.old) (state p.new)) }
 {
     let m = p.start()?;
     p.bump(T![_])?;
@@ -308,11 +300,10 @@ fn infer_type(p: &mut Parser<'_>) -> Result<(), NoMemory>
 
 /// A function pointer, as `fn(a) -> b` and `unsafe extern "C" fn()`.
 #[inline(never)]
-#[tactic(auto, unfolding(rap_grammar_scripts::specs::Types::fn_ptr_type))]
+#[tactic(auto, using(rap_grammar_frame::proofs::Done::less_left, rap_grammar_frame::proofs::Done::marker_kept, rap_grammar_facts::proofs::Alone::alone_less_left, rap_grammar_facts::proofs::Alone::alone_marker_kept, rap_grammar_facts::proofs::Types::level_fn_qualifiers, rap_grammar_facts::proofs::Types::level_fn_ptr_params), unfolding(rap_grammar_scripts::specs::Types::fn_ptr_type))]
 fn fn_ptr_type<G: Grammar>(p: &mut Parser<'_>, g: &G) -> Result<(), NoMemory>
     requires within { Within G.valid G.left g.now (state p.old) }
     requires first { is_fn_ptr_first (next (state p.old)) ≡ true }
-    ensures took { OnOk result (Took (state p.old) (state p.new) type_room) }
     ensures script { OnOk result (Does (G.left g.now) script.fn_ptr_type something (state p.old) (state p.new)) }
 {
     let m = p.start()?;
@@ -332,11 +323,7 @@ fn fn_ptr_type<G: Grammar>(p: &mut Parser<'_>, g: &G) -> Result<(), NoMemory>
 /// What stands before the `fn` of a function pointer, as `unsafe extern "C"`.
 #[tactic(auto, unfolding(rap_grammar_scripts::specs::Types::fn_qualifiers))]
 fn fn_qualifiers(p: &mut Parser<'_>) -> Result<(), NoMemory>
-    ensures grew { OnOk result (Grew (state p.old) (state p.new) 0) }
-    ensures took { OnOk result
-        (is_fn_ptr_first (next (state p.old)) ≡ true → next (state p.new) ≢ FN_KW →
-        Took (state p.old) (state p.new) name_room) }
-    ensures script { OnOk result ((depth : ℕ) → Does depth script.fn_qualifiers something (state p.old) (state p.new)) }
+    ensures script { OnOk result (DoesAlone script.fn_qualifiers something (state p.old) (state p.new)) }
 {
     p.eat(T![unsafe])?;
     if p.at(T![extern]) {
@@ -347,10 +334,9 @@ fn fn_qualifiers(p: &mut Parser<'_>) -> Result<(), NoMemory>
 }
 
 /// The parameters of a function pointer, as `(a, b)`.
-#[tactic(auto, using(rap_grammar_facts::proofs::Params::took_param_list_fn_ptr), unfolding(rap_grammar_scripts::specs::Types::fn_ptr_params))]
+#[tactic(auto, unfolding(rap_grammar_scripts::specs::Types::fn_ptr_params))]
 fn fn_ptr_params<G: Grammar>(p: &mut Parser<'_>, g: &G) -> Result<(), NoMemory>
     requires within { Within G.valid G.left g.now (state p.old) }
-    ensures grew { OnOk result (Grew (state p.old) (state p.new) 1) }
     ensures script { OnOk result (Does (G.left g.now) script.fn_ptr_params something (state p.old) (state p.new)) }
 {
     if p.at(T!['(']) {
@@ -363,11 +349,10 @@ fn fn_ptr_params<G: Grammar>(p: &mut Parser<'_>, g: &G) -> Result<(), NoMemory>
 
 /// A type over any lifetimes, as `for<'a> fn(&'a b)` and `for<'a> b<'a> + c`.
 #[inline(never)]
-#[tactic(auto, unfolding(rap_grammar_scripts::specs::Types::for_type))]
+#[tactic(auto, using(rap_grammar_facts::proofs::Types::facts), unfolding(rap_grammar_scripts::specs::Types::for_type))]
 fn for_type<G: Grammar>(p: &mut Parser<'_>, g: &G, allow_bounds: bool) -> Result<(), NoMemory>
     requires within { Within G.valid G.left g.now (state p.old) }
     requires here { next (state p.old) ≡ FOR_KW }
-    ensures took { OnOk result (Took (state p.old) (state p.new) type_room) }
     ensures script { OnOk result
         (Does (G.left g.now) (script.for_type allow_bounds) something (state p.old) (state p.new)) }
 {
@@ -392,7 +377,6 @@ fn for_target<G: Grammar>(
 ) -> Result<(), NoMemory>
     requires behind { Behind G.valid G.left g.now (state p.old) }
     requires newest { (state p.old).marker ≡ Some m.pos.value }
-    ensures gone { OnOk result (Gone (state p.old) (state p.new) 32) }
     ensures script { OnOk result
         (Does (G.left g.now) (script.for_target allow_bounds) something (state p.old) (state p.new)) }
 {
@@ -418,7 +402,6 @@ fn starts_for_target(p: &Parser<'_>) -> bool
 fn impl_trait_type<G: Grammar>(p: &mut Parser<'_>, g: &G) -> Result<(), NoMemory>
     requires within { Within G.valid G.left g.now (state p.old) }
     requires here { next (state p.old) ≡ IMPL_KW }
-    ensures took { OnOk result (Took (state p.old) (state p.new) type_room) }
     ensures script { OnOk result (Does (G.left g.now) script.impl_trait_type something (state p.old) (state p.new)) }
 {
     let m = p.start()?;
@@ -434,7 +417,6 @@ fn impl_trait_type<G: Grammar>(p: &mut Parser<'_>, g: &G) -> Result<(), NoMemory
 fn dyn_trait_type<G: Grammar>(p: &mut Parser<'_>, g: &G) -> Result<(), NoMemory>
     requires within { Within G.valid G.left g.now (state p.old) }
     requires here { next (state p.old) ≡ DYN_KW }
-    ensures took { OnOk result (Took (state p.old) (state p.new) type_room) }
     ensures script { OnOk result (Does (G.left g.now) script.dyn_trait_type something (state p.old) (state p.new)) }
 {
     let m = p.start()?;
@@ -450,7 +432,6 @@ fn dyn_trait_type<G: Grammar>(p: &mut Parser<'_>, g: &G) -> Result<(), NoMemory>
 fn dyn_trait_type_weak<G: Grammar>(p: &mut Parser<'_>, g: &G) -> Result<(), NoMemory>
     requires within { Within G.valid G.left g.now (state p.old) }
     requires here { ReadsAs (state p.old) DYN_KW }
-    ensures took { OnOk result (Took (state p.old) (state p.new) type_room) }
     ensures script { OnOk result
         (Does (G.left g.now) script.dyn_trait_type_weak something (state p.old) (state p.new)) }
 {
@@ -467,7 +448,6 @@ fn dyn_trait_type_weak<G: Grammar>(p: &mut Parser<'_>, g: &G) -> Result<(), NoMe
 fn bare_dyn_trait_type<G: Grammar>(p: &mut Parser<'_>, g: &G) -> Result<(), NoMemory>
     requires within { Within G.valid G.left g.now (state p.old) }
     requires here { next (state p.old) ≡ LIFETIME_IDENT }
-    ensures took { OnOk result (Took (state p.old) (state p.new) type_room) }
     ensures script { OnOk result
         (Does (G.left g.now) script.bare_dyn_trait_type something (state p.old) (state p.new)) }
 {
@@ -478,7 +458,7 @@ fn bare_dyn_trait_type<G: Grammar>(p: &mut Parser<'_>, g: &G) -> Result<(), NoMe
 }
 
 /// A path, as `a::b`, a macro call, as `a!()`, or `builtin#pattern_type(a is b)`.
-#[tactic(auto, unfolding(rap_grammar_scripts::specs::Types::path_or_macro_type))]
+#[tactic(auto, using(rap_grammar_facts::proofs::Types::facts), unfolding(rap_grammar_scripts::specs::Types::path_or_macro_type))]
 fn path_or_macro_type<G: Grammar>(
     p: &mut Parser<'_>,
     g: &G,
@@ -486,7 +466,6 @@ fn path_or_macro_type<G: Grammar>(
 ) -> Result<(), NoMemory>
     requires within { Within G.valid G.left g.now (state p.old) }
     requires path { holds is_path_start (state p.old).rest ≡ true }
-    ensures took { OnOk result (Took (state p.old) (state p.new) type_room) }
     ensures script { OnOk result
         (Does (G.left g.now) (script.path_or_macro_type allow_bounds) something (state p.old) (state p.new)) }
 {
@@ -500,11 +479,10 @@ fn path_or_macro_type<G: Grammar>(
 
 /// A path as a type, as `a::b`, or a macro call, as `a!()`.
 #[inline(never)]
-#[tactic(auto, unfolding(rap_grammar_scripts::specs::Types::path_or_macro))]
+#[tactic(auto, using(rap_grammar_facts::proofs::Types::facts), unfolding(rap_grammar_scripts::specs::Types::path_or_macro))]
 fn path_or_macro<G: Grammar>(p: &mut Parser<'_>, g: &G, allow_bounds: bool) -> Result<(), NoMemory>
     requires within { Within G.valid G.left g.now (state p.old) }
     requires path { holds is_path_start (state p.old).rest ≡ true }
-    ensures took { OnOk result (Took (state p.old) (state p.new) type_room) }
     ensures script { OnOk result
         (Does (G.left g.now) (script.path_or_macro allow_bounds) something (state p.old) (state p.new)) }
 {
@@ -527,7 +505,7 @@ fn path_or_macro<G: Grammar>(p: &mut Parser<'_>, g: &G, allow_bounds: bool) -> R
 }
 
 /// A path as a type, and bounds after it where they are allowed, as `a + b`.
-#[tactic(auto, unfolding(rap_grammar_scripts::specs::Types::path_type_bounds))]
+#[tactic(auto, using(rap_grammar_facts::proofs::Types::grew_opt_type_bounds_as_dyn_trait_type), unfolding(rap_grammar_scripts::specs::Types::path_type_bounds))]
 pub fn path_type_bounds<G: Grammar>(
     p: &mut Parser<'_>,
     g: &G,
@@ -559,9 +537,7 @@ pub(crate) fn opt_type_bounds_as_dyn_trait_type<G: Grammar>(
 ) -> Result<CompletedMarker, NoMemory>
     requires behind { Behind G.valid G.left g.now (state p.old) }
     requires last { IsLast (state p.old) lhs kind }
-    ensures grew { OnOk result (Grew (state p.old) (state p.new) 16) }
     ensures last { IfOk result (λ cm. IsLast (state p.new) cm cm.kind.value) }
-    ensures one { OnOk result (but_last (state p.new).forest ≡ but_last (state p.old).forest) }
     ensures script { OnOk result
         (Does (G.left g.now) (script.opt_type_bounds_as_dyn_trait_type kind) something (state p.old) (state p.new)) }
 {
@@ -580,12 +556,11 @@ pub(crate) fn opt_type_bounds_as_dyn_trait_type<G: Grammar>(
 
 /// A type by its values, as `builtin#pattern_type(a is 1..)`. Where another name follows, `builtin#` is an error.
 #[inline(never)]
-#[tactic(auto, unfolding(rap_grammar_scripts::specs::Types::pattern_type))]
+#[tactic(auto, using(rap_grammar_frame::proofs::Done::marker_kept, rap_grammar_facts::proofs::Types::level_pattern_type_parts), unfolding(rap_grammar_scripts::specs::Types::pattern_type))]
 fn pattern_type<G: Grammar>(p: &mut Parser<'_>, g: &G) -> Result<(), NoMemory>
     requires within { Within G.valid G.left g.now (state p.old) }
     requires here { ReadsAs (state p.old) BUILTIN_KW }
     requires pound { NthAt (state p.old) 1 POUND }
-    ensures took { OnOk result (Took (state p.old) (state p.new) type_room) }
     ensures script { OnOk result (Does (G.left g.now) script.pattern_type something (state p.old) (state p.new)) }
 {
     let m = p.start()?;
@@ -605,7 +580,6 @@ fn pattern_type<G: Grammar>(p: &mut Parser<'_>, g: &G) -> Result<(), NoMemory>
 /// What stands after `builtin#pattern_type`: a type and its values, as `(a is 1..)`.
 fn pattern_type_parts<G: Grammar>(p: &mut Parser<'_>, g: &G) -> Result<(), NoMemory>
     requires behind { Behind G.valid G.left g.now (state p.old) }
-    ensures grew { OnOk result (Grew (state p.old) (state p.new) 32) }
     ensures script { OnOk result (Does (G.left g.now) script.pattern_type_parts something (state p.old) (state p.new)) }
 {
     p.expect(T!['('])?;
