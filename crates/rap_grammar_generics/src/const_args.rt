@@ -1,13 +1,13 @@
 //! Constants as generic arguments.
-ghost use Rattle.std.specs.Prelude.{ℕ, ◌≡◌, ◌<◌, OnOk, true, IfOk};
+ghost use Rattle.std.specs.Prelude.{◌≡◌, ◌<◌, OnOk, true};
 ghost use Rattle.rap_base.specs.TokenKind.{MINUS};
 ghost use Rattle.rap_base.specs.NodeKind.{PATH_EXPR};
 ghost use Rattle.rap_events.specs.State.{state, next};
 ghost use Rattle.rap_grammar_scripts.specs.ConstArgs as script;
-ghost use Rattle.rap_grammar_scripts.specs.First.{is_const_arg_first, is_path_start};
-ghost use Rattle.rap_grammar_frame.specs.Grew.{Within, Took, Grew, Makes};
+ghost use Rattle.rap_grammar_scripts.specs.First.{is_path_start};
+ghost use Rattle.rap_grammar_frame.specs.Grew.{Within};
 ghost use Rattle.rap_grammar_scripts.specs.Exec.{Does};
-ghost use Rattle.rap_grammar_frame.specs.Room.{element_room, operand_room, atom_room, recovery_events};
+ghost use Rattle.rap_grammar_facts.specs.Alone.{DoesAlone};
 ghost use Rattle.rap_grammar_scripts.specs.Script.{something};
 ghost use Rattle.rap_grammar_scripts.specs.Test.{holds};
 
@@ -23,11 +23,9 @@ use rap_grammar_frame::literals::literal;
 use rap_grammar_paths::paths::expr_path;
 
 /// A constant as an argument, as `1`, `-1`, `{ a }` and `a::b`.
-#[tactic(auto, unfolding(rap_grammar_scripts::specs::ConstArgs::const_arg))]
+#[tactic(auto, using(rap_grammar_facts::proofs::ConstArgs::facts), unfolding(rap_grammar_scripts::specs::ConstArgs::const_arg))]
 pub fn const_arg<G: Grammar>(p: &mut Parser<'_>, g: &G) -> Result<(), NoMemory>
     requires within { Within G.valid G.left g.now (state p.old) }
-    ensures grew { OnOk result (Grew (state p.old) (state p.new) 8) }
-    ensures took { OnOk result (is_const_arg_first (next (state p.old)) ≡ true → Took (state p.old) (state p.new) element_room) }
     ensures script { OnOk result (Does (G.left g.now) script.const_arg something (state p.old) (state p.new)) }
 {
     let m = p.start()?;
@@ -40,8 +38,6 @@ pub fn const_arg<G: Grammar>(p: &mut Parser<'_>, g: &G) -> Result<(), NoMemory>
 #[tactic(auto, unfolding(rap_grammar_scripts::specs::ConstArgs::const_arg_expr))]
 fn const_arg_expr<G: Grammar>(p: &mut Parser<'_>, g: &G) -> Result<(), NoMemory>
     requires within { Within G.valid G.left g.now (state p.old) }
-    ensures grew { OnOk result (Grew (state p.old) (state p.new) 6) }
-    ensures took { OnOk result (is_const_arg_first (next (state p.old)) ≡ true → Took (state p.old) (state p.new) operand_room) }
     ensures script { OnOk result
         (Does (G.left g.now) script.const_arg_expr something (state p.old) (state p.new)) }
 {
@@ -70,7 +66,6 @@ fn const_arg_expr<G: Grammar>(p: &mut Parser<'_>, g: &G) -> Result<(), NoMemory>
 fn const_path<G: Grammar>(p: &mut Parser<'_>, g: &G) -> Result<CompletedMarker, NoMemory>
     requires within { Within G.valid G.left g.now (state p.old) }
     requires path { holds is_path_start (state p.old).rest ≡ true }
-    ensures made { IfOk result (Makes PATH_EXPR atom_room (state p.old) (state p.new)) }
     ensures script { OnOk result (Does (G.left g.now) script.const_path something (state p.old) (state p.new)) }
 {
     let m = p.start()?;
@@ -83,9 +78,8 @@ fn const_path<G: Grammar>(p: &mut Parser<'_>, g: &G) -> Result<CompletedMarker, 
 #[tactic(auto, unfolding(rap_grammar_scripts::specs::ConstArgs::negative_const))]
 fn negative_const(p: &mut Parser<'_>) -> Result<(), NoMemory>
     requires here { next (state p.old) ≡ MINUS }
-    ensures took { OnOk result (Took (state p.old) (state p.new) operand_room) }
     ensures script { OnOk result
-        ((depth : ℕ) → Does depth script.negative_const something (state p.old) (state p.new)) }
+        (DoesAlone script.negative_const something (state p.old) (state p.new)) }
 {
     let m = p.start()?;
     p.bump(T![-])?;
@@ -99,9 +93,8 @@ fn negative_const(p: &mut Parser<'_>) -> Result<(), NoMemory>
 #[inline(never)]
 #[tactic(auto, unfolding(rap_grammar_scripts::specs::ConstArgs::missing_const))]
 fn missing_const(p: &mut Parser<'_>) -> Result<(), NoMemory>
-    ensures grew { OnOk result (Grew (state p.old) (state p.new) recovery_events) }
     ensures script { OnOk result
-        ((depth : ℕ) → Does depth script.missing_const something (state p.old) (state p.new)) }
+        (DoesAlone script.missing_const something (state p.old) (state p.new)) }
 {
     p.err_recover(
         "expected a generic const argument",

@@ -1,13 +1,14 @@
 //! Generic parameters, bounds, and `where`.
-ghost use Rattle.std.specs.Prelude.{ℕ, ◌≡◌, ◌≢◌, ◌<◌, ◌≤◌, OnOk, IfOk, Some, true, false};
+ghost use Rattle.std.specs.Prelude.{◌≡◌, ◌≢◌, ◌<◌, ◌≤◌, OnOk, IfOk, Some, true, false};
 ghost use Rattle.rap_base.specs.TokenKind.{L_ANGLE, LIFETIME_IDENT, IDENT, CONST_KW, COLON, USE_KW, BANG, WHERE_KW};
 ghost use Rattle.rap_base.specs.NodeKind.{TYPE_BOUND_LIST};
 ghost use Rattle.rap_events.specs.State.{state, next, NthAt};
-ghost use Rattle.rap_grammar_scripts.specs.First.{is_type_first, is_where_predicate_first};
+ghost use Rattle.rap_grammar_scripts.specs.First.{is_where_predicate_first};
 ghost use Rattle.rap_grammar_scripts.specs.GenericParams as script;
-ghost use Rattle.rap_grammar_frame.specs.Grew.{Within, Grew, Took, Behind, Gone, Spent, Closes};
+ghost use Rattle.rap_grammar_frame.specs.Grew.{Within, Grew, Took, Behind, Closes};
 ghost use Rattle.rap_grammar_scripts.specs.Exec.{Does};
-ghost use Rattle.rap_grammar_frame.specs.Room.{list_room, param_room, element_room, path_room, segment_room, name_end_room, name_room};
+ghost use Rattle.rap_grammar_facts.specs.Alone.{DoesAlone, DoesDeep};
+ghost use Rattle.rap_grammar_frame.specs.Room.{list_room};
 ghost use Rattle.rap_grammar_scripts.specs.Script.{something};
 ghost use Rattle.rap_grammar_scripts.specs.Words.{of_bool};
 
@@ -75,8 +76,6 @@ impl Element for GenericParam {
 fn generic_param<G: Grammar>(p: &mut Parser<'_>, g: &G, m: Marker) -> Result<bool, NoMemory>
     requires behind { Behind G.valid G.left g.now (state p.old) }
     requires newest { (state p.old).marker ≡ Some m.pos.value }
-    ensures gone { OnOk result (Gone (state p.old) (state p.new) 4) }
-    ensures spent { IfOk result (λ found. found ≡ true → Spent (state p.old) (state p.new) param_room) }
     ensures script { IfOk result
         (λ found. Does (G.left g.now) script.generic_param (of_bool found) (state p.old) (state p.new)) }
 {
@@ -107,8 +106,6 @@ fn lifetime_param<G: Grammar>(p: &mut Parser<'_>, g: &G, m: Marker) -> Result<()
     requires behind { Behind G.valid G.left g.now (state p.old) }
     requires newest { (state p.old).marker ≡ Some m.pos.value }
     requires here { next (state p.old) ≡ LIFETIME_IDENT }
-    ensures gone { OnOk result (Gone (state p.old) (state p.new) 0) }
-    ensures spent { OnOk result (Spent (state p.old) (state p.new) param_room) }
     ensures script { OnOk result (Does (G.left g.now) script.lifetime_param something (state p.old) (state p.new)) }
 {
     lifetime(p)?;
@@ -125,8 +122,6 @@ fn type_param<G: Grammar>(p: &mut Parser<'_>, g: &G, m: Marker) -> Result<(), No
     requires behind { Behind G.valid G.left g.now (state p.old) }
     requires newest { (state p.old).marker ≡ Some m.pos.value }
     requires here { next (state p.old) ≡ IDENT }
-    ensures gone { OnOk result (Gone (state p.old) (state p.new) 0) }
-    ensures spent { OnOk result (Spent (state p.old) (state p.new) param_room) }
     ensures script { OnOk result (Does (G.left g.now) script.type_param something (state p.old) (state p.new)) }
 {
     name(p)?;
@@ -142,13 +137,11 @@ fn type_param<G: Grammar>(p: &mut Parser<'_>, g: &G, m: Marker) -> Result<(), No
 }
 
 /// A constant as a parameter, as `const N: a = 1`.
-#[tactic(auto, unfolding(rap_grammar_scripts::specs::GenericParams::const_param))]
+#[tactic(auto, using(rap_grammar_facts::proofs::GenericParams::facts), unfolding(rap_grammar_scripts::specs::GenericParams::const_param))]
 fn const_param<G: Grammar>(p: &mut Parser<'_>, g: &G, m: Marker) -> Result<(), NoMemory>
     requires behind { Behind G.valid G.left g.now (state p.old) }
     requires newest { (state p.old).marker ≡ Some m.pos.value }
     requires here { next (state p.old) ≡ CONST_KW }
-    ensures gone { OnOk result (Gone (state p.old) (state p.new) 0) }
-    ensures spent { OnOk result (Spent (state p.old) (state p.new) param_room) }
     ensures script { OnOk result (Does (G.left g.now) script.const_param something (state p.old) (state p.new)) }
 {
     p.bump(T![const])?;
@@ -163,7 +156,6 @@ fn const_param<G: Grammar>(p: &mut Parser<'_>, g: &G, m: Marker) -> Result<(), N
 #[tactic(auto, unfolding(rap_grammar_scripts::specs::GenericParams::const_type))]
 fn const_type<G: Grammar>(p: &mut Parser<'_>, g: &G) -> Result<(), NoMemory>
     requires behind { Behind G.valid G.left g.now (state p.old) }
-    ensures grew { OnOk result (Grew (state p.old) (state p.new) 1) }
     ensures script { OnOk result (Does (G.left g.now) script.const_type something (state p.old) (state p.new)) }
 {
     if p.at(T![:]) {
@@ -178,7 +170,6 @@ fn const_type<G: Grammar>(p: &mut Parser<'_>, g: &G) -> Result<(), NoMemory>
 #[tactic(auto, unfolding(rap_grammar_scripts::specs::GenericParams::const_default))]
 fn const_default<G: Grammar>(p: &mut Parser<'_>, g: &G) -> Result<(), NoMemory>
     requires behind { Behind G.valid G.left g.now (state p.old) }
-    ensures grew { OnOk result (Grew (state p.old) (state p.new) 0) }
     ensures script { OnOk result (Does (G.left g.now) script.const_default something (state p.old) (state p.new)) }
 {
     if p.eat(T![=])? {
@@ -188,7 +179,7 @@ fn const_default<G: Grammar>(p: &mut Parser<'_>, g: &G) -> Result<(), NoMemory>
 }
 
 /// What a lifetime outlives, as the `'b + 'c` of `'a: 'b + 'c`.
-#[tactic(auto, unfolding(rap_grammar_scripts::specs::GenericParams::lifetime_bounds))]
+#[tactic(auto, using(rap_grammar_facts::proofs::GenericParams::facts), unfolding(rap_grammar_scripts::specs::GenericParams::lifetime_bounds))]
 fn lifetime_bounds<G: Grammar>(p: &mut Parser<'_>, g: &G) -> Result<(), NoMemory>
     requires within { Within G.valid G.left g.now (state p.old) }
     ensures grew { OnOk result (Grew (state p.old) (state p.new) 16) }
@@ -201,10 +192,9 @@ fn lifetime_bounds<G: Grammar>(p: &mut Parser<'_>, g: &G) -> Result<(), NoMemory
 }
 
 /// A lifetime's bounds with `+` between them.
-#[tactic(auto, using(rap_grammar_frame::proofs::Loops::turns), unfolding(rap_grammar_scripts::specs::GenericParams::lifetime_bound_list))]
+#[tactic(auto, using(rap_grammar_facts::proofs::GenericParams::facts, rap_grammar_frame::proofs::Loops::turns), unfolding(rap_grammar_scripts::specs::GenericParams::lifetime_bound_list))]
 fn lifetime_bound_list<G: Grammar>(p: &mut Parser<'_>, g: &G) -> Result<(), NoMemory>
     requires within { Within G.valid G.left g.now (state p.old) }
-    ensures grew { OnOk result (Grew (state p.old) (state p.new) 8) }
     ensures script { OnOk result
         (Does (G.left g.now) script.lifetime_bound_list something (state p.old) (state p.new)) }
 {
@@ -220,8 +210,6 @@ fn lifetime_bound_list<G: Grammar>(p: &mut Parser<'_>, g: &G) -> Result<(), NoMe
 #[tactic(auto, using(rap_grammar_frame::proofs::Steps::by_report), unfolding(rap_grammar_scripts::specs::GenericParams::lifetime_bound))]
 fn lifetime_bound<G: Grammar>(p: &mut Parser<'_>, g: &G) -> Result<bool, NoMemory>
     requires within { Within G.valid G.left g.now (state p.old) }
-    ensures grew { OnOk result (Grew (state p.old) (state p.new) 4) }
-    ensures took { IfOk result (λ found. found ≡ true → Took (state p.old) (state p.new) element_room) }
     ensures script { IfOk result
         (λ found. Does (G.left g.now) script.lifetime_bound (of_bool found) (state p.old) (state p.new)) }
 {
@@ -252,7 +240,6 @@ pub fn bounds<G: Grammar>(p: &mut Parser<'_>, g: &G) -> Result<(), NoMemory>
 pub fn bounds_without_colon<G: Grammar>(p: &mut Parser<'_>, g: &G) -> Result<(), NoMemory>
     requires within { Within G.valid G.left g.now (state p.old) }
     ensures grew { OnOk result (Grew (state p.old) (state p.new) 16) }
-    ensures took { OnOk result (next (state p.old) ≡ LIFETIME_IDENT → Took (state p.old) (state p.new) list_room) }
     ensures script { OnOk result
         (Does (G.left g.now) script.bounds_without_colon something (state p.old) (state p.new)) }
 {
@@ -262,7 +249,7 @@ pub fn bounds_without_colon<G: Grammar>(p: &mut Parser<'_>, g: &G) -> Result<(),
 }
 
 /// Bounds, from their marker on.
-#[tactic(auto, unfolding(rap_grammar_scripts::specs::GenericParams::bounds_without_colon_m))]
+#[tactic(auto, using(rap_grammar_facts::proofs::GenericParams::facts), unfolding(rap_grammar_scripts::specs::GenericParams::bounds_without_colon_m))]
 pub fn bounds_without_colon_m<G: Grammar>(
     p: &mut Parser<'_>,
     g: &G,
@@ -270,8 +257,7 @@ pub fn bounds_without_colon_m<G: Grammar>(
 ) -> Result<CompletedMarker, NoMemory>
     requires within { Within G.valid G.left g.now (state p.old) }
     requires newest { (state p.old).marker ≡ Some m.pos.value }
-    ensures closes { IfOk result (Closes TYPE_BOUND_LIST 8 (state p.old) (state p.new)) }
-    ensures spent { OnOk result (next (state p.old) ≡ LIFETIME_IDENT → Spent (state p.old) (state p.new) path_room) }
+    ensures closes { IfOk result (Closes TYPE_BOUND_LIST 12 (state p.old) (state p.new)) }
     ensures script { OnOk result
         (Does (G.left g.now) script.bounds_without_colon_m something (state p.old) (state p.new)) }
 {
@@ -281,11 +267,9 @@ pub fn bounds_without_colon_m<G: Grammar>(
 }
 
 /// Bounds with `+` between them.
-#[tactic(auto, using(rap_grammar_frame::proofs::Loops::turns), unfolding(rap_grammar_scripts::specs::GenericParams::type_bounds))]
+#[tactic(auto, using(rap_grammar_facts::proofs::GenericParams::facts, rap_grammar_frame::proofs::Loops::turns), unfolding(rap_grammar_scripts::specs::GenericParams::type_bounds))]
 fn type_bounds<G: Grammar>(p: &mut Parser<'_>, g: &G) -> Result<(), NoMemory>
     requires within { Within G.valid G.left g.now (state p.old) }
-    ensures grew { OnOk result (Grew (state p.old) (state p.new) 4) }
-    ensures took { OnOk result (next (state p.old) ≡ LIFETIME_IDENT → Took (state p.old) (state p.new) segment_room) }
     ensures script { OnOk result (Does (G.left g.now) script.type_bounds something (state p.old) (state p.new)) }
 {
     'bounds: while type_bound(p, g)? {
@@ -297,12 +281,9 @@ fn type_bounds<G: Grammar>(p: &mut Parser<'_>, g: &G) -> Result<(), NoMemory>
 }
 
 /// A bound, as `'a`, `A` and `(?A)`. Returns whether there is one.
-#[tactic(auto, unfolding(rap_grammar_scripts::specs::GenericParams::type_bound))]
+#[tactic(auto, using(rap_grammar_facts::proofs::GenericParams::facts), unfolding(rap_grammar_scripts::specs::GenericParams::type_bound))]
 fn type_bound<G: Grammar>(p: &mut Parser<'_>, g: &G) -> Result<bool, NoMemory>
     requires within { Within G.valid G.left g.now (state p.old) }
-    ensures grew { OnOk result (Grew (state p.old) (state p.new) 2) }
-    ensures took { IfOk result (λ found. found ≡ true → Took (state p.old) (state p.new) param_room) }
-    ensures lifetime { OnOk result (next (state p.old) ≡ LIFETIME_IDENT → Took (state p.old) (state p.new) name_end_room) }
     ensures script { IfOk result
         (λ found. Does (G.left g.now) script.type_bound (of_bool found) (state p.old) (state p.new)) }
 {
@@ -320,12 +301,9 @@ fn type_bound<G: Grammar>(p: &mut Parser<'_>, g: &G) -> Result<bool, NoMemory>
 }
 
 /// A bound without its parentheses, as `'a`, `for<'a> A<'a>` and `use<'a, T>`. Returns whether there is one.
-#[tactic(auto, unfolding(rap_grammar_scripts::specs::GenericParams::bare_bound))]
+#[tactic(auto, using(rap_grammar_facts::proofs::GenericParams::facts), unfolding(rap_grammar_scripts::specs::GenericParams::bare_bound))]
 fn bare_bound<G: Grammar>(p: &mut Parser<'_>, g: &G) -> Result<bool, NoMemory>
     requires within { Within G.valid G.left g.now (state p.old) }
-    ensures grew { OnOk result (Grew (state p.old) (state p.new) 0) }
-    ensures took { IfOk result (λ found. found ≡ true → Took (state p.old) (state p.new) list_room) }
-    ensures lifetime { OnOk result (next (state p.old) ≡ LIFETIME_IDENT → Took (state p.old) (state p.new) name_room) }
     ensures script { IfOk result
         (λ found. Does (G.left g.now) script.bare_bound (of_bool found) (state p.old) (state p.new)) }
 {
@@ -356,7 +334,6 @@ fn use_bound<G: Grammar>(p: &mut Parser<'_>, g: &G) -> Result<(), NoMemory>
     requires within { Within G.valid G.left g.now (state p.old) }
     requires here { next (state p.old) ≡ USE_KW }
     requires args { NthAt (state p.old) 1 L_ANGLE }
-    ensures took { OnOk result (Took (state p.old) (state p.new) list_room) }
     ensures script { OnOk result (Does (G.left g.now) script.use_bound something (state p.old) (state p.new)) }
 {
     p.bump(T![use])?;
@@ -401,11 +378,9 @@ impl Element for UseBoundArg {
 }
 
 /// A trait as a bound, as `A`, `?A` and `const async A`. Returns whether there is one.
-#[tactic(auto, unfolding(rap_grammar_scripts::specs::GenericParams::path_type_bound))]
+#[tactic(auto, using(rap_grammar_facts::proofs::GenericParams::facts), unfolding(rap_grammar_scripts::specs::GenericParams::path_type_bound))]
 fn path_type_bound<G: Grammar>(p: &mut Parser<'_>, g: &G) -> Result<bool, NoMemory>
     requires within { Within G.valid G.left g.now (state p.old) }
-    ensures grew { OnOk result (Grew (state p.old) (state p.new) 0) }
-    ensures took { IfOk result (λ found. found ≡ true → Took (state p.old) (state p.new) list_room) }
     ensures script { IfOk result
         (λ found. Does (G.left g.now) script.path_type_bound (of_bool found) (state p.old) (state p.new)) }
 {
@@ -425,9 +400,8 @@ fn path_type_bound<G: Grammar>(p: &mut Parser<'_>, g: &G) -> Result<bool, NoMemo
 /// The `const` before a trait, as `const`, `~const` and `[const]`, if there is one.
 #[tactic(auto, unfolding(rap_grammar_scripts::specs::GenericParams::bound_constness))]
 fn bound_constness(p: &mut Parser<'_>) -> Result<(), NoMemory>
-    ensures grew { OnOk result (Grew (state p.old) (state p.new) 0) }
     ensures script { OnOk result
-        ((depth : ℕ) → Does depth script.bound_constness something (state p.old) (state p.new)) }
+        (DoesAlone script.bound_constness something (state p.old) (state p.new)) }
 {
     if p.eat(T![~])? {
         p.expect(T![const])?;
@@ -446,9 +420,8 @@ fn bound_constness(p: &mut Parser<'_>) -> Result<(), NoMemory>
 #[tactic(auto, unfolding(rap_grammar_scripts::specs::GenericParams::bound_macro_call))]
 fn bound_macro_call(p: &mut Parser<'_>) -> Result<(), NoMemory>
     requires { next (state p.old) ≡ BANG }
-    ensures took { OnOk result (Took (state p.old) (state p.new) param_room) }
     ensures script { OnOk result
-        ((depth : ℕ) → (state p.old).left ≤ depth → Does depth script.bound_macro_call something (state p.old)
+        (DoesDeep script.bound_macro_call something (state p.old)
         (state p.new)) }
 {
     let m = p.start()?;
@@ -464,7 +437,7 @@ fn bound_macro_call(p: &mut Parser<'_>) -> Result<(), NoMemory>
 }
 
 /// A `where` clause, as `where 'a: 'b, T: A`.
-#[tactic(auto, unfolding(rap_grammar_scripts::specs::GenericParams::where_clause))]
+#[tactic(auto, using(rap_grammar_facts::proofs::GenericParams::facts), unfolding(rap_grammar_scripts::specs::GenericParams::where_clause))]
 pub fn where_clause<G: Grammar>(p: &mut Parser<'_>, g: &G) -> Result<(), NoMemory>
     requires within { Within G.valid G.left g.now (state p.old) }
     requires here { next (state p.old) ≡ WHERE_KW }
@@ -479,10 +452,9 @@ pub fn where_clause<G: Grammar>(p: &mut Parser<'_>, g: &G) -> Result<(), NoMemor
 }
 
 /// The predicates of a `where`, with commas between them.
-#[tactic(auto, using(rap_grammar_frame::proofs::Loops::turns), unfolding(rap_grammar_scripts::specs::GenericParams::where_predicates))]
+#[tactic(auto, using(rap_grammar_facts::proofs::GenericParams::facts, rap_grammar_frame::proofs::Loops::turns), unfolding(rap_grammar_scripts::specs::GenericParams::where_predicates))]
 fn where_predicates<G: Grammar>(p: &mut Parser<'_>, g: &G) -> Result<(), NoMemory>
     requires behind { Behind G.valid G.left g.now (state p.old) }
-    ensures grew { OnOk result (Grew (state p.old) (state p.new) 0) }
     ensures script { OnOk result (Does (G.left g.now) script.where_predicates something (state p.old) (state p.new)) }
 {
     'predicates: while is_where_predicate(p.current()) {
@@ -504,9 +476,8 @@ fn is_where_predicate(kind: SyntaxKind) -> bool
 /// The comma after a predicate. Returns whether another predicate may follow.
 #[tactic(auto, unfolding(rap_grammar_scripts::specs::GenericParams::after_predicate))]
 fn after_predicate(p: &mut Parser<'_>) -> Result<bool, NoMemory>
-    ensures grew { OnOk result (Grew (state p.old) (state p.new) 1) }
     ensures script { IfOk result
-        (λ on. (depth : ℕ) → Does depth script.after_predicate (of_bool on) (state p.old) (state p.new)) }
+        (λ on. DoesAlone script.after_predicate (of_bool on) (state p.old) (state p.new)) }
 {
     let comma = p.eat(T![,])?;
     if matches!(p.current(), T!['{'] | T![;] | T![=]) {
@@ -522,9 +493,6 @@ fn after_predicate(p: &mut Parser<'_>) -> Result<bool, NoMemory>
 #[tactic(auto, unfolding(rap_grammar_scripts::specs::GenericParams::where_predicate))]
 fn where_predicate<G: Grammar>(p: &mut Parser<'_>, g: &G) -> Result<(), NoMemory>
     requires behind { Behind G.valid G.left g.now (state p.old) }
-    ensures grew { OnOk result (Grew (state p.old) (state p.new) 16) }
-    ensures took { OnOk result
-        (is_where_predicate_first (next (state p.old)) ≡ true → Took (state p.old) (state p.new) element_room) }
     ensures script { OnOk result (Does (G.left g.now) script.where_predicate something (state p.old) (state p.new)) }
 {
     let m = p.start()?;
@@ -545,11 +513,10 @@ fn where_predicate<G: Grammar>(p: &mut Parser<'_>, g: &G) -> Result<(), NoMemory
 }
 
 /// A predicate about a type, as `for<'a> T: A<'a>`.
-#[tactic(auto, unfolding(rap_grammar_scripts::specs::GenericParams::type_predicate))]
+#[tactic(auto, using(rap_grammar_facts::proofs::GenericParams::facts), unfolding(rap_grammar_scripts::specs::GenericParams::type_predicate))]
 fn type_predicate<G: Grammar>(p: &mut Parser<'_>, g: &G) -> Result<(), NoMemory>
     requires behind { Behind G.valid G.left g.now (state p.old) }
     ensures grew { OnOk result (Grew (state p.old) (state p.new) 9) }
-    ensures took { OnOk result (is_type_first (next (state p.old)) ≡ true → Took (state p.old) (state p.new) param_room) }
     ensures script { OnOk result (Does (G.left g.now) script.type_predicate something (state p.old) (state p.new)) }
 {
     if p.at(T![for]) {

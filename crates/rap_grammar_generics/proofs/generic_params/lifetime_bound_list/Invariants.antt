@@ -1,13 +1,12 @@
-use Rattle.std.proofs.Common.{false}
+use Rattle.std.proofs.Common.{◌≤◌, false}
 use Rattle.rap_events.specs.State.{state}
 use Rattle.rap_grammar_scripts.specs.GenericParams.{lifetime_bound_turn}
-use Rattle.rap_grammar_frame.specs.Grew.{Grew}
 use Rattle.rap_grammar_frame.proofs.Steps.{Turns}
 use Rattle.rap_grammar_generics.proofs.generic_params.lifetime_bound_list.Given as goal
 
 abbrev pub invariant-bounds : goal.invariant-bounds
 invariant-bounds g l = record {
-  grew : Grew (state l.initial.p) (state l.p) 0;
+  left : (state l.p).left ≤ (state l.initial.p).left;
   script : Turns (g.G.Grammar.left l.g) lifetime_bound_turn false false false false l.initial.p l.p;
 }
 
