@@ -1,7 +1,5 @@
 -- A loop goes on where a token was skipped.
-use Rattle.std.proofs.Common.{◌≡◌, ℕ, List, Bool, sym, ap}
-use Rattle.rap_events.specs.Forest.{Forest}
-use Rattle.rap_events.specs.Record.{Record}
+use Rattle.std.proofs.Common.{◌≡◌, ℕ, List, Bool, ap}
 use Rattle.rap_events.specs.State.{State, Skipped}
 use Rattle.rap_grammar_scripts.specs.Exec.{End, looped}
 use Rattle.rap_grammar_scripts.specs.Stand.{Stand, stand, skipped_over}
