@@ -504,6 +504,7 @@ impl Element for TupleField {
 }
 
 /// A field without a name, as `#[a] pub b`. Returns whether there is one.
+#[inline(always)]
 #[tactic(auto, unfolding(rap_grammar_scripts::specs::Adt::tuple_field))]
 fn tuple_field<G: Grammar>(p: &mut Parser<'_>, g: &G) -> Result<bool, NoMemory>
     requires behind { Behind G.valid G.left g.now (state p.old) }
