@@ -4,7 +4,7 @@ ghost use Rattle.std.specs.Prelude.{◌≤◌, length, All, AllPairs, IfOk};
 use crate::element::{Elements, elements_of};
 use crate::memo::{Answer, Question, Wanted};
 use crate::search::{Search, new_search};
-use crate::shape::{CATEGORIES, is_of_some};
+use crate::shape::{Root, all_roots, is_of_some};
 use rap_base::no_memory::NoMemory;
 use rap_base::syntax_kind::SyntaxKind;
 use rap_events::input::Input;
@@ -20,17 +20,43 @@ pub struct Outside {
 }
 
 impl Search {
-    /// Whether some category derives a node, in a list that ends at an element.
-    fn is_inside(&mut self, input: &Input, at: usize, limit: usize) -> Result<bool, NoMemory> {
-        let behind = self.elements.at(at).behind;
-        'categories: for number in 0..CATEGORIES {
-            let question = Question {
-                wanted: Wanted::Category(number),
-                at,
-                limit,
-            };
-            if let Answer::Fact(_, end) = self.answer(input, question)? {
-                if end == behind {
+    /// Whether a category derives a node, in a list that ends at an element.
+    fn is_of(
+        &mut self,
+        input: &Input,
+        category: u16,
+        at: usize,
+        limit: usize,
+    ) -> Result<bool, NoMemory> {
+        let question = Question {
+            wanted: Wanted::Category(category),
+            at,
+            limit,
+        };
+        match self.answer(input, question)? {
+            Answer::Fact(_, end) => Ok(end == self.elements.at(at).behind),
+            Answer::Unasked | Answer::Nothing => Ok(false),
+        }
+    }
+
+    /// Whether an element is a leaf, or a node that some category derives, in a list that ends at another one.
+    fn is_derived(
+        &mut self,
+        input: &Input,
+        roots: &[Root],
+        at: usize,
+        limit: usize,
+    ) -> Result<bool, NoMemory> {
+        let element = self.elements.at(at);
+        if !element.is_node {
+            return Ok(true);
+        }
+        let kind = u16::from(element.kind);
+        'roots: for i in 0..roots.len() {
+            let root = roots[i];
+            if root.kind == kind {
+                let is_one = self.is_of(input, root.category, at, limit)?;
+                if is_one {
                     return Ok(true);
                 }
             }
@@ -38,16 +64,8 @@ impl Search {
         Ok(false)
     }
 
-    /// Whether an element is a leaf, or a node that some category derives.
-    fn is_derived(&mut self, input: &Input, at: usize, limit: usize) -> Result<bool, NoMemory> {
-        if !self.elements.at(at).is_node {
-            return Ok(true);
-        }
-        self.is_inside(input, at, limit)
-    }
-
     /// The nodes that no category derives, but those in nodes that one does; each stands before what is in it.
-    fn failed(&mut self, input: &Input) -> Result<Vec<usize>, NoMemory> {
+    fn failed(&mut self, input: &Input, roots: &[Root]) -> Result<Vec<usize>, NoMemory> {
         let mut failed = Vec::new(self.alloc);
         let mut limits = Vec::new(self.alloc);
         let mut at = 0;
@@ -59,7 +77,7 @@ impl Search {
             if at < limit {
                 limits.push(limit)?;
                 let element = self.elements.at(at);
-                if self.is_derived(input, at, limit)? {
+                if self.is_derived(input, roots, at, limit)? {
                     at = element.behind;
                 } else {
                     failed.push(at)?;
@@ -134,6 +152,7 @@ pub(crate) fn outside_along(
     ensures apart { IfOk result (λ nodes. AllPairs (λ later node. node.end ≤ later.start) nodes.items) }
 {
     let mut search = new_search(alloc, elements)?;
-    let failed = search.failed(input)?;
+    let roots = all_roots(alloc)?;
+    let failed = search.failed(input, roots.as_slice())?;
     search.smallest(failed, input.len())
 }

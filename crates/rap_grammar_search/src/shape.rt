@@ -1,11 +1,13 @@
 //! What the rows tell of the nodes in a tree.
 
+use rap_base::no_memory::NoMemory;
 use rap_base::syntax_kind::SyntaxKind;
 use rap_grammar_rows::check::row_place;
 use rap_grammar_rows::part::{Part, part_at};
+use std::alloc::Global;
 
 /// How many categories there are.
-pub const CATEGORIES: u16 = 129;
+const CATEGORIES: u16 = 129;
 
 /// The place behind a part, where a row goes on there.
 pub fn following(part: Part) -> Option<usize> {
@@ -117,4 +119,89 @@ pub fn is_of_some(kind: SyntaxKind) -> bool {
         }
     }
     false
+}
+
+/// A category, and a kind of nodes that it may be by what stands in its own rows, and not by another category alone.
+#[derive(Clone, Copy, PartialEq, Eq)]
+pub struct Root {
+    pub category: u16,
+    pub kind: u16,
+}
+
+/// Adds a root, if it is not there.
+fn add(roots: &mut Vec<Root>, root: Root) -> Result<(), NoMemory> {
+    'roots: for other in roots.iter() {
+        if *other == root {
+            return Ok(());
+        }
+    }
+    roots.push(root)?;
+    Ok(())
+}
+
+/// Adds the kinds of the nodes that turns put around one.
+fn add_turns(roots: &mut Vec<Root>, category: u16, turns: usize) -> Result<(), NoMemory> {
+    let mut place = turns;
+    'turns: for _ in 0..u64::MAX {
+        let Some(Part::Turn(_, row, next)) = part_at(place) else {
+            return Ok(());
+        };
+        if let Some((kind, _)) = end_of_node(row) {
+            add(roots, Root { category, kind })?;
+        }
+        place = next;
+    }
+    Ok(())
+}
+
+/// Adds the kinds of the node that may begin at a place of a row, and to the places those at which else it may begin.
+fn add_part(
+    roots: &mut Vec<Root>,
+    places: &mut Vec<usize>,
+    category: u16,
+    place: usize,
+) -> Result<(), NoMemory> {
+    let Some(part) = part_at(place) else {
+        return Ok(());
+    };
+    if let Part::Start(next) = part {
+        if let Some((kind, behind)) = end_of_node(next) {
+            add(roots, Root { category, kind })?;
+            add_turns(roots, category, turns_at(behind).unwrap_or(usize::MAX))?;
+        }
+        return Ok(());
+    }
+    match part {
+        Part::Choice(first, second, _) | Part::Repeat(first, second, _) => {
+            places.push(first)?;
+            places.push(second)?;
+        }
+        Part::Group(row, _) => places.push(row)?,
+        Part::Folds(_, turns, _) => add_turns(roots, category, turns)?,
+        Part::Guard(_, _) | Part::Category(_, _) => {}
+        _ => return Ok(()),
+    }
+    places.push(following(part).unwrap_or(usize::MAX))?;
+    Ok(())
+}
+
+/// Which kinds of nodes the categories may be. A node that some category derives is derived by one with such a root.
+pub fn all_roots(alloc: Global) -> Result<Vec<Root>, NoMemory> {
+    let mut roots = Vec::new(alloc);
+    let mut places = Vec::new(alloc);
+    'categories: for category in 0..CATEGORIES {
+        'rows: for row in 0..usize::MAX {
+            let Some(place) = row_place(category, row) else {
+                break 'rows;
+            };
+            places.push(place)?;
+            'parts: for _ in 0..u64::MAX {
+                let Some(place) = places.pop() else {
+                    break 'parts;
+                };
+                add_part(&mut roots, &mut places, category, place)?;
+            }
+        }
+    }
+    Ok(roots)
 }
