@@ -45,14 +45,15 @@ kind_records-further kinds a b edition within =
     ∙ ap (λ (ks : List ℕ). kind_records (take (a + 1) kinds) edition ++ kind_records ks edition) rest)
 
 -- the tokens of a part are put after those before it
-pub put_further : (old now new : List Record) (kinds part : List ℕ) (a c m n : ℕ) (edition : Edition) → a < c → c ≤ length kinds → m ≡ a + 1 → n ≡ c →
-    now ≡ old ++ kind_records (take m kinds) edition → part ≡ slice_range kinds a c → new ≡ now ++ kind_records part edition → new ≡ old ++ kind_records (take n kinds) edition
-put_further old now new kinds part a c m n edition some within is_next is_end so_far is wrote =
+pub put_further : (old now new : List Record) (kinds part : List ℕ) (a c m n : ℕ) (edition same : Edition) → a < c → c ≤ length kinds → m ≡ a + 1 → n ≡ c → same ≡ edition →
+    now ≡ old ++ kind_records (take m kinds) edition → part ≡ slice_range kinds a c → new ≡ now ++ kind_records part same → new ≡ old ++ kind_records (take n kinds) edition
+put_further old now new kinds part a c m n edition same some within is_next is_end one so_far is wrote =
     let b : ℕ = c - a - 1 in
     let long : c - a ≡ b + 1 = omega arith in
     let whole : a + b + 1 ≡ n = omega arith in
     let inside : a + b < length kinds = omega arith in
     wrote
+    ∙ ap (λ (e : Edition). now ++ kind_records part e) one
     ∙ ap (λ (rs : List Record). rs ++ kind_records part edition) (so_far ∙ ap (λ (i : ℕ). old ++ kind_records (take i kinds) edition) is_next)
     ∙ append_assoc old (kind_records (take (a + 1) kinds) edition) (kind_records part edition)
     ∙ ap (λ (ks : List ℕ). old ++ (kind_records (take (a + 1) kinds) edition ++ kind_records ks edition)) (is ∙ ap (λ (i : ℕ). take i (drop a kinds)) long)

@@ -70,7 +70,7 @@ impl Input {
         ensures ok { OnOk result (self.new ≡ self.old ++ record { kind = kind; contextual = EOF; edition = edition; joint = joint } ∷ []) }
         ensures err { OnErr result (self.new ≡ self.old) }
     {
-        self.columns.make_room(self.len)?;
+        self.columns.make_room(self.len, edition)?;
         self.columns
             .write(self.len, kind, SyntaxKind::EOF, edition, joint);
         self.len += 1;
@@ -88,7 +88,7 @@ impl Input {
         ensures ok { OnOk result (self.new ≡ self.old ++ record { kind = IDENT; contextual = contextual_kind; edition = edition; joint = false } ∷ []) }
         ensures err { OnErr result (self.new ≡ self.old) }
     {
-        self.columns.make_room(self.len)?;
+        self.columns.make_room(self.len, edition)?;
         self.columns.write(self.len, SyntaxKind::IDENT, contextual_kind, edition, false);
         self.len += 1;
         Ok(())
@@ -103,7 +103,7 @@ impl Input {
         ensures pushed { IsTrue result → self.new ≡ self.old ++ record { kind = kind; contextual = EOF; edition = edition; joint = joint } ∷ [] }
         ensures full { IsFalse result → self.new ≡ self.old }
     {
-        if !self.columns.has_room(self.len) {
+        if !self.columns.has_room(self.len, edition) {
             return false;
         }
         self.columns
@@ -120,7 +120,7 @@ impl Input {
         ensures pushed { IsTrue result → self.new ≡ self.old ++ record { kind = IDENT; contextual = contextual_kind; edition = edition; joint = false } ∷ [] }
         ensures full { IsFalse result → self.new ≡ self.old }
     {
-        if !self.columns.has_room(self.len) {
+        if !self.columns.has_room(self.len, edition) {
             return false;
         }
         self.columns.write(self.len, SyntaxKind::IDENT, contextual_kind, edition, false);
@@ -141,10 +141,10 @@ impl Input {
         ensures floats { All (λ kind. kind ≢ FLOAT_NUMBER) (take result kinds.now) }
         ensures pushed { self.new ≡ self.old ++ kind_records (take (result + 1) kinds.now) edition }
     {
-        if kinds.is_empty() || !self.columns.has_room(self.len) {
+        if kinds.is_empty() || !self.columns.has_room(self.len, edition) {
             return 0;
         }
-        let (end, taken) = self.columns.write_kinds(self.len, kinds, edition);
+        let (end, taken) = self.columns.write_kinds(self.len, kinds);
         self.len = end;
         taken
     }
@@ -177,7 +177,7 @@ impl Input {
         ensures { result ≡ kind_at self.now index }
     {
         if index < self.len {
-            self.columns.kinds[index]
+            self.columns.kind(index)
         } else {
             SyntaxKind::EOF
         }
@@ -189,7 +189,7 @@ impl Input {
         ensures identifier { result ≢ EOF → kind_at self.now index ≡ IDENT }
     {
         if index < self.len {
-            self.columns.contextual_kinds[index]
+            self.columns.contextual_kind(index)
         } else {
             SyntaxKind::EOF
         }
@@ -200,7 +200,7 @@ impl Input {
         ensures { result ≡ edition_at self.now index }
     {
         if index < self.len {
-            self.columns.editions[index]
+            self.columns.edition(index)
         } else {
             Edition::Edition2024
         }

@@ -1,15 +1,14 @@
-//! Records of tokens of which nothing but the kinds is known.
+//! Records of tokens of which nothing but the kinds is known. They get the edition that all records have.
 //!
 //! Processors read a jump that crosses or ends at a border of some bytes slower than others, so that a loop of many jumps
 //! takes up to half more time where it lies badly. So tokens are put eight at a time, without a jump.
 ghost use Rattle.std.specs.Prelude.{◌≡◌, ◌≢◌, ◌↔◌, ◌+◌, ◌*◌, ◌<◌, ◌≤◌, ◌++◌, All, IsTrue, IsFalse, false, length, drop, take, slice_index_or};
 ghost use Rattle.rap_base.specs.TokenKind.{EOF, FLOAT_NUMBER};
 ghost use Rattle.rap_base.specs.TokenTests.{is_trivia};
-ghost use Rattle.rap_events.specs.Input.{records, Holds};
-ghost use Rattle.rap_events.specs.KindRecords.{touches, contextual_of_kind, kind_record, kind_records};
+ghost use Rattle.rap_events.specs.Input.{records, Holds, KeepsRoom};
+ghost use Rattle.rap_events.specs.KindRecords.{touches, kind_record, kind_records};
 
 use super::{BLOCK, Columns};
-use rap_base::edition::Edition;
 use rap_base::syntax_kind::SyntaxKind;
 
 /// How many tokens are put at a time.
@@ -26,17 +25,17 @@ impl Columns {
         start: usize,
         kinds: &[SyntaxKind],
         few: usize,
-        edition: Edition,
     ) -> (usize, usize, bool)
         requires holds { Holds self.old start }
+        requires one_edition { length self.old.editions.items ≡ 0 }
         requires room { start + few ≤ 64 * length self.old.joints.items }
         requires within { few < length kinds.now }
         ensures holds { Holds self.new result.0 }
-        ensures records { records self.new result.0 ≡ records self.old start ++ kind_records (take (result.1 + 1) kinds.now) edition }
+        ensures records { records self.new result.0 ≡ records self.old start ++ kind_records (take (result.1 + 1) kinds.now) self.old.edition }
         ensures floats { All (λ kind. kind ≢ FLOAT_NUMBER) (take result.1 kinds.now) }
         ensures few { result.1 ≤ few }
         ensures touching { result.2 ≡ touches (slice_index_or kinds.now result.1 EOF) }
-        ensures words { length self.new.joints.items ≡ length self.old.joints.items }
+        ensures room { KeepsRoom self.old self.new }
     {
         let mut place = start;
         let mut taken = 0usize;
@@ -46,7 +45,7 @@ impl Columns {
                 break;
             }
             let pair = &kinds[taken..taken + 2];
-            let (next_place, next_touching) = self.put_one(place, pair, touching, edition);
+            let (next_place, next_touching) = self.put_one(place, pair, touching);
             place = next_place;
             touching = next_touching;
             taken += 1;
@@ -65,16 +64,16 @@ impl Columns {
         start: usize,
         kinds: &[SyntaxKind],
         first_touching: bool,
-        edition: Edition,
     ) -> (usize, usize)
         requires holds { Holds self.old start }
+        requires one_edition { length self.old.editions.items ≡ 0 }
         requires some { 0 < length kinds.now }
         requires touching { first_touching ≡ touches (slice_index_or kinds.now 0 EOF) }
         ensures holds { Holds self.new result.0 }
-        ensures records { records self.new result.0 ≡ records self.old start ++ kind_records (take (result.1 + 1) kinds.now) edition }
+        ensures records { records self.new result.0 ≡ records self.old start ++ kind_records (take (result.1 + 1) kinds.now) self.old.edition }
         ensures floats { All (λ kind. kind ≢ FLOAT_NUMBER) (take result.1 kinds.now) }
         ensures within { result.1 < length kinds.now }
-        ensures words { length self.new.joints.items ≡ length self.old.joints.items }
+        ensures room { KeepsRoom self.old self.new }
     {
         let mut place = start;
         let mut taken = 0usize;
@@ -86,13 +85,11 @@ impl Columns {
                 place,
                 &kinds[taken..taken + 5],
                 touching,
-                edition,
             );
             let (end, end_touching) = self.put_four(
                 middle,
                 &kinds[taken + 4..taken + 9],
                 middle_touching,
-                edition,
             );
             place = end;
             touching = end_touching;
@@ -116,27 +113,22 @@ impl Columns {
 
     /// Puts the records of four tokens, with the kind of the token after them, as [`Columns::put_one`] does.
     #[inline(always)]
-    fn put_four(
-        &mut self,
-        place: usize,
-        kinds: &[SyntaxKind],
-        touching: bool,
-        edition: Edition,
-    ) -> (usize, bool)
+    fn put_four(&mut self, place: usize, kinds: &[SyntaxKind], touching: bool) -> (usize, bool)
         requires holds { Holds self.old place }
+        requires one_edition { length self.old.editions.items ≡ 0 }
         requires room { place + 4 ≤ 64 * length self.old.joints.items }
         requires kinds { length kinds.now ≡ 5 }
         requires touching { touching ≡ touches (slice_index_or kinds.now 0 EOF) }
         ensures holds { Holds self.new result.0 }
-        ensures records { records self.new result.0 ≡ records self.old place ++ kind_records kinds.now edition }
+        ensures records { records self.new result.0 ≡ records self.old place ++ kind_records kinds.now self.old.edition }
         ensures near { result.0 ≤ place + 4 }
         ensures touching { result.1 ≡ touches (slice_index_or kinds.now 4 EOF) }
-        ensures words { length self.new.joints.items ≡ length self.old.joints.items }
+        ensures room { KeepsRoom self.old self.new }
     {
-        let (second, second_touching) = self.put_one(place, &kinds[..2], touching, edition);
-        let (third, third_touching) = self.put_one(second, &kinds[1..3], second_touching, edition);
-        let (fourth, fourth_touching) = self.put_one(third, &kinds[2..4], third_touching, edition);
-        self.put_one(fourth, &kinds[3..5], fourth_touching, edition)
+        let (second, second_touching) = self.put_one(place, &kinds[..2], touching);
+        let (third, third_touching) = self.put_one(second, &kinds[1..3], second_touching);
+        let (fourth, fourth_touching) = self.put_one(third, &kinds[2..4], third_touching);
+        self.put_one(fourth, &kinds[3..5], fourth_touching)
     }
 
     /// Puts the record of a token at a place that has room, where the records end: the first kind is the token's, and the
@@ -144,45 +136,38 @@ impl Columns {
     ///
     /// Returns where the records end then, and whether the second kind touches.
     #[inline(always)]
-    fn put_one(
-        &mut self,
-        place: usize,
-        kinds: &[SyntaxKind],
-        touching: bool,
-        edition: Edition,
-    ) -> (usize, bool)
+    fn put_one(&mut self, place: usize, kinds: &[SyntaxKind], touching: bool) -> (usize, bool)
         requires holds { Holds self.old place }
+        requires one_edition { length self.old.editions.items ≡ 0 }
         requires room { place < 64 * length self.old.joints.items }
         requires kinds { length kinds.now ≡ 2 }
         requires touching { touching ≡ touches (slice_index_or kinds.now 0 EOF) }
         ensures holds { Holds self.new result.0 }
-        ensures records { records self.new result.0 ≡ records self.old place ++ kind_records kinds.now edition }
+        ensures records { records self.new result.0 ≡ records self.old place ++ kind_records kinds.now self.old.edition }
         ensures near { result.0 ≤ place + 1 }
         ensures touching { result.1 ≡ touches (slice_index_or kinds.now 1 EOF) }
-        ensures words { length self.new.joints.items ≡ length self.old.joints.items }
+        ensures room { KeepsRoom self.old self.new }
     {
         let next_touching = touches(kinds[1]);
-        let end = self.put(place, kinds[0], edition, touching & next_touching);
+        let end = self.put(place, kinds[0], touching & next_touching);
         (end, next_touching)
     }
 
     /// Puts the record of a token at a place that has room, where the records end. Returns where they end then: trivia
     /// have no record, so that the next token is put at the same place.
     #[inline(always)]
-    fn put(&mut self, place: usize, kind: SyntaxKind, edition: Edition, joint: bool) -> usize
+    fn put(&mut self, place: usize, kind: SyntaxKind, joint: bool) -> usize
         requires holds { Holds self.old place }
+        requires one_edition { length self.old.editions.items ≡ 0 }
         requires room { place < 64 * length self.old.joints.items }
         requires kept { IsTrue joint → is_trivia kind ≡ false }
         ensures holds { Holds self.new result }
-        ensures records { records self.new result ≡ records self.old place ++ kind_record kind joint edition }
+        ensures records { records self.new result ≡ records self.old place ++ kind_record kind joint self.old.edition }
         ensures near { result ≤ place + 1 }
-        ensures words { length self.new.joints.items ≡ length self.old.joints.items }
+        ensures room { KeepsRoom self.old self.new }
     {
-        let contextual_kind = contextual_of_kind(kind);
         let count = usize::from(!kind.is_trivia());
-        self.kinds[place] = kind;
-        self.contextual_kinds[place] = contextual_kind;
-        self.editions[place] = edition;
+        self.codes[place] = u16::from(kind);
         self.joints[place / BLOCK] |= u64::from(joint) << (place % BLOCK);
         place + count
     }
@@ -198,18 +183,6 @@ fn holds_float(kinds: &[SyntaxKind]) -> bool
         found |= *kind == SyntaxKind::FLOAT_NUMBER;
     }
     found
-}
-
-/// What a token may be read as where its text is no contextual keyword.
-#[inline(always)]
-fn contextual_of_kind(kind: SyntaxKind) -> SyntaxKind
-    ensures { result ≡ contextual_of_kind kind }
-{
-    if kind == SyntaxKind::IDENT {
-        SyntaxKind::IDENT
-    } else {
-        SyntaxKind::EOF
-    }
 }
 
 /// Whether this is neither the kind of trivia nor that of an identifier.

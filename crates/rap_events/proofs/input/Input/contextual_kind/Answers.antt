@@ -1,27 +1,25 @@
-use Rattle.std.proofs.Common.{◌≡◌, ◌<◌, length, sym, ◌∙◌, arith}
-use Rattle.std.proofs.lemmas.List.{get_or_default}
-use Rattle.rap_base.specs.TokenKind.{EOF}
+use Rattle.std.proofs.Common.{◌≡◌, sym, ◌∙◌, arith}
 use Rattle.rap_events.specs.Input.{records}
 use Rattle.rap_events.specs.Record.{contextual_at}
-use Rattle.rap_events.proofs.Columns.{reads, reads_past}
+use Rattle.rap_events.proofs.Columns.{reads, reads_past, token_at}
 use Rattle.rap_events.proofs.Records.{identifier_at}
 use Rattle.rap_events.proofs.input.Input.contextual_kind.Goals as goal
 
+pub contextual_kind-requires-clause-place : goal.contextual_kind-requires-clause-place
+contextual_kind-requires-clause-place c = omega (arith, c.self.invariant.0.room, c.self.invariant.0.codes)
+
+pub contextual_kind-requires-clause-token : goal.contextual_kind-requires-clause-token
+contextual_kind-requires-clause-token c = token_at c.self.inside.columns c.self.inside.len c.args.index c.self.invariant.1 c.if-index-self.true
+
 pub returns-then-index-self-clause-contextual : goal.returns-then-index-self-clause-contextual
 returns-then-index-self-clause-contextual c =
-    let columns = c.self.inside.columns in
-    let holds = c.self.invariant.0 in
-    let within : c.args.index < length columns.contextual_kinds.items = omega (arith, holds.room, holds.contextual_kinds) in
-    rw (← c.self.view_is) (c.index.ensures ∙ get_or_default columns.contextual_kinds.items c.args.index _ EOF within ∙ sym (reads columns c.self.inside.len c.args.index c.if-index-self.true).contextual)
+    rw (← c.self.view_is) (c.contextual_kind.ensures ∙ sym (reads c.self.inside.columns c.self.inside.len c.args.index c.if-index-self.true).contextual)
 
 pub returns-then-index-self-clause-identifier : goal.returns-then-index-self-clause-identifier
 returns-then-index-self-clause-identifier c =
-    let columns = c.self.inside.columns in
-    let holds = c.self.invariant.0 in
-    let within : c.args.index < length columns.contextual_kinds.items = omega (arith, holds.room, holds.contextual_kinds) in
-    let here : contextual_at (records columns c.self.inside.len) c.args.index ≡ c.index.result.now =
-    (reads columns c.self.inside.len c.args.index c.if-index-self.true).contextual ∙ sym (c.index.ensures ∙ get_or_default columns.contextual_kinds.items c.args.index _ EOF within) in
-    rw (← c.self.view_is) (λ e. identifier_at (records columns c.self.inside.len) c.args.index c.self.invariant.1 (rw here e))
+    let here : contextual_at (records c.self.inside.columns c.self.inside.len) c.args.index ≡ c.contextual_kind.result =
+    (reads c.self.inside.columns c.self.inside.len c.args.index c.if-index-self.true).contextual ∙ sym c.contextual_kind.ensures in
+    rw (← c.self.view_is) (λ e. identifier_at (records c.self.inside.columns c.self.inside.len) c.args.index c.self.invariant.1 (rw here e))
 
 pub returns-else-index-self-clause-contextual : goal.returns-else-index-self-clause-contextual
 returns-else-index-self-clause-contextual c =

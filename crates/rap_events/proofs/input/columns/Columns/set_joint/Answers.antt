@@ -7,7 +7,7 @@ returns-clause-holds c =
     let old = c.args.self.now in
     let within : c.args.last / 64 < length old.joints.items = omega (arith, c.requires.room) in
     joined-holds old _ c.args.last
-    (record { kinds = refl; contextual_kinds = refl; editions = refl; joints = as_with_joint old.joints.items c.args.last true _ 1 within c.index_mut.ensures.value refl })
+    (record { codes = refl; edition = refl; editions = refl; joints = as_with_joint old.joints.items c.args.last true _ 1 within c.index_mut.ensures.value refl })
     c.requires
 
 pub returns-clause-records : goal.returns-clause-records
@@ -15,5 +15,5 @@ returns-clause-records c =
     let old = c.args.self.now in
     let within : c.args.last / 64 < length old.joints.items = omega (arith, c.requires.room) in
     joined-records old _ c.args.last
-    (record { kinds = refl; contextual_kinds = refl; editions = refl; joints = as_with_joint old.joints.items c.args.last true _ 1 within c.index_mut.ensures.value refl })
+    (record { codes = refl; edition = refl; editions = refl; joints = as_with_joint old.joints.items c.args.last true _ 1 within c.index_mut.ensures.value refl })
     c.requires

@@ -7,8 +7,7 @@ returns c =
     let none : length c.in_ok-joints.joints.items ≡ 0 = ap length c.in_ok-joints.ensures.items in
     record {
       room = omega arith;
-      kinds = omega arith;
-      contextual_kinds = omega arith;
-      editions = omega arith;
+      codes = omega arith;
+      editions = λ used. omega arith;
       clear = λ i past. bit-past c.in_ok-joints.joints.items i (omega arith);
     }
