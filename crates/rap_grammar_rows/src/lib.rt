@@ -8,7 +8,5 @@ mod lists;
 mod numbers;
 pub mod part;
 pub mod shape;
-#[cfg(test)]
-mod tests;
 pub mod tokens;
 mod walk;

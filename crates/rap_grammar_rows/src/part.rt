@@ -68,6 +68,17 @@ fn behind(place: usize, further: u16) -> usize
     place + 1 + usize::from(further)
 }
 
+/// Returns the place of the part behind the one at a place, or nothing where a row ends and past the last part.
+pub fn following(place: usize) -> Option<usize>
+    ensures { IfSome result (λ next. place < next) }
+{
+    let numbers = numbers_at(place)?;
+    if numbers.form == 0 {
+        return None;
+    }
+    Some(behind(place, numbers.next))
+}
+
 /// Returns the part at a place, or nothing past the last part.
 pub fn part_at(place: usize) -> Option<Part>
     ensures { IfSome result (λ part. at_place place ≡ meaning part) }

@@ -41,11 +41,14 @@ impl Shape {
     pub fn joined(self, other: Shape) -> Shape
         ensures { result ≡ joined self other }
     {
-        match (self, other) {
-            (shape, Shape::Empty) => shape,
-            (_, Shape::Any) => Shape::Any,
-            (Shape::Empty, Shape::OneNode) => Shape::OneNode,
-            (_, Shape::OneNode | Shape::EndsInNode) => Shape::EndsInNode,
+        match other {
+            Shape::Empty => self,
+            Shape::Any => Shape::Any,
+            Shape::OneNode => match self {
+                Shape::Empty => Shape::OneNode,
+                _ => Shape::EndsInNode,
+            },
+            Shape::EndsInNode => Shape::EndsInNode,
         }
     }
 

@@ -9,6 +9,4 @@ mod memo;
 pub mod outside;
 pub mod search;
 mod shape;
-#[cfg(test)]
-mod tests;
 mod turns;

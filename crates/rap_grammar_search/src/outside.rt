@@ -1,10 +1,10 @@
 //! The nodes of a tree that the table does not derive.
 ghost use Rattle.std.specs.Prelude.{◌≤◌, length, All, AllPairs, IfOk};
 
-use crate::element::{Elements, elements_of};
+use crate::element::elements_of;
 use crate::memo::{Answer, Question, Wanted};
 use crate::search::{Search, new_search};
-use crate::shape::{Root, all_roots, is_of_some};
+use crate::shape::{Root, all_roots, is_begun};
 use rap_base::no_memory::NoMemory;
 use rap_base::syntax_kind::SyntaxKind;
 use rap_events::input::Input;
@@ -104,7 +104,12 @@ impl Search {
     }
 
     /// Of nodes that no category derives the smallest; the last one comes first. Of so many tokens none is in two.
-    fn smallest(&self, failed: Vec<usize>, tokens: usize) -> Result<Vec<Outside>, NoMemory>
+    fn smallest(
+        &self,
+        roots: &[Root],
+        failed: Vec<usize>,
+        tokens: usize,
+    ) -> Result<Vec<Outside>, NoMemory>
         ensures within { IfOk result (λ nodes. All (λ node. (node.start ≤ node.end) × (node.end ≤ tokens)) nodes.items) }
         ensures apart { IfOk result (λ nodes. AllPairs (λ later node. node.end ≤ later.start) nodes.items) }
     {
@@ -118,7 +123,7 @@ impl Search {
             };
             let element = self.elements.at(at);
             let is_first = at == 0 && found.is_empty();
-            if element.behind <= newest && (is_first || is_of_some(element.kind)) {
+            if element.behind <= newest && (is_first || is_begun(roots, u16::from(element.kind))) {
                 let node = self.node(at, limit);
                 newest = at;
                 limit = node.start;
@@ -139,20 +144,8 @@ pub fn find_outside(alloc: Global, input: &Input, output: &Output) -> Result<Vec
     ensures apart { IfOk result (λ nodes. AllPairs (λ later node. node.end ≤ later.start) nodes.items) }
 {
     let elements = elements_of(alloc, output)?;
-    outside_along(alloc, input, elements)
-}
-
-/// The same along the elements of the tree.
-pub(crate) fn outside_along(
-    alloc: Global,
-    input: &Input,
-    elements: Elements,
-) -> Result<Vec<Outside>, NoMemory>
-    ensures within { IfOk result (λ nodes. All (λ node. (node.start ≤ node.end) × (node.end ≤ length input.now)) nodes.items) }
-    ensures apart { IfOk result (λ nodes. AllPairs (λ later node. node.end ≤ later.start) nodes.items) }
-{
     let mut search = new_search(alloc, elements)?;
     let roots = all_roots(alloc)?;
     let failed = search.failed(input, roots.as_slice())?;
-    search.smallest(failed, input.len())
+    search.smallest(roots.as_slice(), failed, input.len())
 }

@@ -596,15 +596,6 @@ pub fn find_derivation(
     output: &Output,
 ) -> Result<Derivation, NoMemory> {
     let elements = elements_of(alloc, output)?;
-    derivation_along(alloc, input, elements)
-}
-
-/// The same along the elements of the tree.
-pub(crate) fn derivation_along(
-    alloc: Global,
-    input: &Input,
-    elements: Elements,
-) -> Result<Derivation, NoMemory> {
     let question = Question {
         wanted: Wanted::Row(0),
         at: 1,

@@ -3,30 +3,11 @@
 use rap_base::no_memory::NoMemory;
 use rap_base::syntax_kind::SyntaxKind;
 use rap_grammar_rows::check::row_place;
-use rap_grammar_rows::part::{Part, part_at};
+use rap_grammar_rows::part::{Part, following, part_at};
 use std::alloc::Global;
 
 /// How many categories there are.
 const CATEGORIES: u16 = 129;
-
-/// The place behind a part, where a row goes on there.
-pub fn following(part: Part) -> Option<usize> {
-    match part {
-        Part::End => None,
-        Part::Start(next)
-        | Part::Close(_, next)
-        | Part::Token(_, _, next)
-        | Part::Word(_, next)
-        | Part::Operator(_, next)
-        | Part::Category(_, next)
-        | Part::Choice(_, _, next)
-        | Part::Repeat(_, _, next)
-        | Part::Group(_, next)
-        | Part::Folds(_, _, next)
-        | Part::Turn(_, _, next)
-        | Part::Guard(_, next) => Some(next),
-    }
-}
 
 /// Where the node ends that is open from a place on: its kind, and the place behind it.
 pub fn end_of_node(place: usize) -> Option<(u16, usize)> {
@@ -44,7 +25,7 @@ pub fn end_of_node(place: usize) -> Option<(u16, usize)> {
             }
             _ => {}
         }
-        place = following(part)?;
+        place = following(place)?;
     }
     None
 }
@@ -74,69 +55,38 @@ pub fn ends_with(turns: usize, kind: SyntaxKind) -> bool {
     false
 }
 
-/// What a row begins with, behind tests.
-fn first_part(place: usize) -> Option<Part> {
-    let mut place = place;
-    'parts: for _ in 0..u64::MAX {
-        let part = part_at(place)?;
-        let Part::Guard(_, next) = part else {
-            return Some(part);
-        };
-        place = next;
-    }
-    None
-}
-
-/// Whether a row begins with a node of this kind.
-fn begins_with(place: usize, kind: SyntaxKind) -> bool {
-    let Some(Part::Start(next)) = first_part(place) else {
-        return false;
-    };
-    let Some((begun, _)) = end_of_node(next) else {
-        return false;
-    };
-    begun == u16::from(kind)
-}
-
-/// Whether some row of a category begins with a node of this kind.
-fn is_of(category: u16, kind: SyntaxKind) -> bool {
-    'rows: for row in 0..usize::MAX {
-        let Some(place) = row_place(category, row) else {
-            return false;
-        };
-        if begins_with(place, kind) {
-            return true;
-        }
-    }
-    false
-}
-
-/// Whether some category is of nodes of this kind.
-pub fn is_of_some(kind: SyntaxKind) -> bool {
-    'categories: for category in 0..CATEGORIES {
-        if is_of(category, kind) {
-            return true;
-        }
-    }
-    false
-}
-
 /// A category, and a kind of nodes that it may be by what stands in its own rows, and not by another category alone.
-#[derive(Clone, Copy, PartialEq, Eq)]
+#[derive(Clone, Copy)]
 pub struct Root {
     pub category: u16,
     pub kind: u16,
+    /// Whether a row begins such a node, and not only puts it around another one.
+    pub is_begun: bool,
 }
 
 /// Adds a root, if it is not there.
 fn add(roots: &mut Vec<Root>, root: Root) -> Result<(), NoMemory> {
-    'roots: for other in roots.iter() {
-        if *other == root {
+    'roots: for i in 0..roots.len() {
+        let other = roots[i];
+        if other.category == root.category && other.kind == root.kind {
+            if root.is_begun {
+                roots[i] = root;
+            }
             return Ok(());
         }
     }
     roots.push(root)?;
     Ok(())
+}
+
+/// Whether some row begins a node of this kind.
+pub fn is_begun(roots: &[Root], kind: u16) -> bool {
+    'roots: for root in roots {
+        if root.is_begun && root.kind == kind {
+            return true;
+        }
+    }
+    false
 }
 
 /// Adds the kinds of the nodes that turns put around one.
@@ -147,7 +97,15 @@ fn add_turns(roots: &mut Vec<Root>, category: u16, turns: usize) -> Result<(), N
             return Ok(());
         };
         if let Some((kind, _)) = end_of_node(row) {
-            add(roots, Root { category, kind })?;
+            let is_begun = false;
+            add(
+                roots,
+                Root {
+                    category,
+                    kind,
+                    is_begun,
+                },
+            )?;
         }
         place = next;
     }
@@ -166,7 +124,15 @@ fn add_part(
     };
     if let Part::Start(next) = part {
         if let Some((kind, behind)) = end_of_node(next) {
-            add(roots, Root { category, kind })?;
+            let is_begun = true;
+            add(
+                roots,
+                Root {
+                    category,
+                    kind,
+                    is_begun,
+                },
+            )?;
             add_turns(roots, category, turns_at(behind).unwrap_or(usize::MAX))?;
         }
         return Ok(());
@@ -181,7 +147,7 @@ fn add_part(
         Part::Guard(_, _) | Part::Category(_, _) => {}
         _ => return Ok(()),
     }
-    places.push(following(part).unwrap_or(usize::MAX))?;
+    places.push(following(place).unwrap_or(usize::MAX))?;
     Ok(())
 }
 

@@ -88,7 +88,7 @@ fn pushes_kinds_up_to_a_float_number(rt: HostRuntime) -> Result<(), Fail> {
     let mut input = Input::with_capacity(rt.alloc(), 4)?;
     let without_room = push_comparison(&mut input);
     assert!(rt; without_room == 0 && input.is_empty());
-    input.push(SyntaxKind::COMMA, Edition::Edition2024)?;
+    input.push(SyntaxKind::COMMA, Edition::Edition2021)?;
     assert_eq!(rt; push_comparison(&mut input), 5);
     assert_eq!(rt; input.len(), 5);
     assert!(rt; input.kind(1) == SyntaxKind::L_ANGLE && input.is_joint(1));
@@ -98,6 +98,82 @@ fn pushes_kinds_up_to_a_float_number(rt: HostRuntime) -> Result<(), Fail> {
     assert!(rt; input.kind(4) == SyntaxKind::DOT && input.is_joint(4));
     assert!(rt; input.contextual_kind(4) == SyntaxKind::EOF);
     assert!(rt; input.edition(4) == Edition::Edition2021);
+    Ok(())
+}
+
+// The first token of another edition makes the input keep the edition of each token, over a growth of its lists too.
+// From then on kinds alone are not taken.
+#[test]
+fn keeps_editions_that_change(rt: HostRuntime) -> Result<(), Fail> {
+    let mut input = Input::with_capacity(rt.alloc(), 4)?;
+    input.push(SyntaxKind::COMMA, Edition::Edition2021)?;
+    assert_eq!(rt; push_comparison(&mut input), 5);
+    input.push_ident(SyntaxKind::UNION_KW, Edition::Edition2018)?;
+    input.push(SyntaxKind::IDENT, Edition::Edition2021)?;
+    assert_eq!(rt; push_comparison(&mut input), 0);
+    let has_room = input.push_joint_in_room(SyntaxKind::EQ, Edition::Edition2021, true);
+    assert!(rt; !has_room && input.len() == 7);
+    for _ in 7..1030 {
+        input.push_joint(SyntaxKind::EQ, Edition::Edition2015, true)?;
+    }
+    assert_eq!(rt; input.len(), 1030);
+    for i in 0..1030 {
+        assert_eq!(rt; input.edition(i) == Edition::Edition2021, i < 5 || i == 6);
+        assert_eq!(rt; input.edition(i) == Edition::Edition2018, i == 5);
+        assert_eq!(rt; input.edition(i) == Edition::Edition2015, i > 6);
+        assert_eq!(rt;
+            input.kind(i) == SyntaxKind::IDENT,
+            i == 3 || i == 5 || i == 6
+        );
+        assert_eq!(rt; input.is_joint(i), i == 1 || i == 4 || i > 6);
+    }
+    assert!(rt; input.contextual_kind(3) == SyntaxKind::IDENT);
+    assert!(rt; input.contextual_kind(5) == SyntaxKind::UNION_KW);
+    assert!(rt; input.contextual_kind(6) == SyntaxKind::EOF);
+    assert!(rt; input.contextual_kind(7) == SyntaxKind::EOF);
+    Ok(())
+}
+
+// The tokens of `a,` nine times, the last for the one before it.
+fn push_pairs(input: &mut Input) -> usize {
+    let kinds = [
+        SyntaxKind::IDENT,
+        SyntaxKind::COMMA,
+        SyntaxKind::IDENT,
+        SyntaxKind::COMMA,
+        SyntaxKind::IDENT,
+        SyntaxKind::COMMA,
+        SyntaxKind::IDENT,
+        SyntaxKind::COMMA,
+        SyntaxKind::IDENT,
+        SyntaxKind::COMMA,
+        SyntaxKind::IDENT,
+        SyntaxKind::COMMA,
+        SyntaxKind::IDENT,
+        SyntaxKind::COMMA,
+        SyntaxKind::IDENT,
+        SyntaxKind::COMMA,
+        SyntaxKind::IDENT,
+        SyntaxKind::COMMA,
+    ];
+    input.push_kinds_in_room(&kinds, Edition::Edition2015)
+}
+
+// Kinds of another edition than that of the tokens so far are not taken. Those of the same one are: of 18 kinds 16, eight
+// at a time, since the last two are no eight.
+#[test]
+fn pushes_kinds_of_one_edition(rt: HostRuntime) -> Result<(), Fail> {
+    let mut input = Input::with_capacity(rt.alloc(), 4)?;
+    input.push(SyntaxKind::COMMA, Edition::Edition2015)?;
+    assert_eq!(rt; push_comparison(&mut input), 0);
+    assert_eq!(rt; push_pairs(&mut input), 16);
+    assert_eq!(rt; input.len(), 17);
+    for i in 0..17 {
+        let identifier = i % 2 == 1;
+        assert_eq!(rt; input.kind(i) == SyntaxKind::IDENT, identifier);
+        assert_eq!(rt; input.contextual_kind(i) == SyntaxKind::IDENT, identifier);
+        assert!(rt; input.edition(i) == Edition::Edition2015 && !input.is_joint(i));
+    }
     Ok(())
 }
 

@@ -1,7 +1,9 @@
-//! Tests of the public calls of the libraries that need no grammar whose results no built program shows; they are in a
-//! crate of their own, since in those libraries each would be proved a second time.
+//! Tests of the public calls of the libraries below the grammar's rules whose results no built program shows; they are in
+//! a crate of their own, since in those libraries each would be proved a second time.
 #![tactic(auto)]
 
+#[cfg(test)]
+mod derivation;
 #[cfg(test)]
 mod document;
 #[cfg(test)]
