@@ -1,5 +1,5 @@
 //! Attributes.
-ghost use Rattle.std.specs.Prelude.{ℕ, ◌≡◌, ◌≢◌, ◌∷◌, OnOk, true, false, []};
+ghost use Rattle.std.specs.Prelude.{◌≡◌, ◌≢◌, ◌∷◌, OnOk, true, false, []};
 ghost use Rattle.rap_base.specs.TokenKind.{EOF, UNSAFE_KW, CFG_ATTR_KW, CFG_KW, TRUE_KW, FALSE_KW, L_PAREN, EQ};
 ghost use Rattle.rap_events.specs.State.{state, next, At};
 ghost use Rattle.rap_events.specs.Composite.{is_at};
@@ -8,7 +8,8 @@ ghost use Rattle.rap_grammar_scripts.specs.Attributes.{is_inner_attr_start, doc_
 ghost use Rattle.rap_grammar_scripts.specs.First.{is_outer_attr_first, is_cfg_predicate_first, one_of};
 ghost use Rattle.rap_grammar_frame.specs.Grew.{Within, Grew, Took, Behind};
 ghost use Rattle.rap_grammar_scripts.specs.Exec.{Does};
-ghost use Rattle.rap_grammar_frame.specs.Room.{list_room, name_room, element_room, recovery_events};
+ghost use Rattle.rap_grammar_facts.specs.Alone.{DoesAlone};
+ghost use Rattle.rap_grammar_frame.specs.Room.{list_room, element_room};
 ghost use Rattle.rap_grammar_frame.specs.Rules.{Parsed};
 ghost use Rattle.rap_grammar_scripts.specs.Script.{something};
 ghost use Rattle.rap_grammar_scripts.specs.Test.{holds};
@@ -33,7 +34,7 @@ fn is_inner_attr_start(p: &Parser<'_>) -> bool
 }
 
 /// Inner attributes, as `#![a]` at the head of a block.
-#[tactic(auto, using(rap_grammar_frame::proofs::Loops::turns), unfolding(rap_grammar_scripts::specs::Attributes::inner_attrs))]
+#[tactic(auto, using(rap_grammar_facts::proofs::Attributes::took_attr))]
 pub fn inner_attrs<G: Grammar>(p: &mut Parser<'_>, g: &G) -> Result<(), NoMemory>
     requires within { Within G.valid G.left g.now (state p.old) }
     ensures grew { OnOk result (Grew (state p.old) (state p.new) 0) }
@@ -47,7 +48,7 @@ pub fn inner_attrs<G: Grammar>(p: &mut Parser<'_>, g: &G) -> Result<(), NoMemory
 }
 
 /// Outer attributes, as `#[a]` before a field.
-#[tactic(auto, using(rap_grammar_frame::proofs::Loops::turns), unfolding(rap_grammar_scripts::specs::Attributes::outer_attrs))]
+#[tactic(auto, using(rap_grammar_facts::proofs::Attributes::took_attr))]
 pub fn outer_attrs<G: Grammar>(p: &mut Parser<'_>, g: &G) -> Result<(), NoMemory>
     requires within { Within G.valid G.left g.now (state p.old) }
     ensures grew { OnOk result (Grew (state p.old) (state p.new) 0) }
@@ -73,11 +74,10 @@ fn doc_comment(inner: bool) -> SyntaxKind
 }
 
 /// An attribute, as `#[a]`, and as `#![a]` where it is an inner one.
-#[tactic(auto, unfolding(rap_grammar_scripts::specs::Attributes::attr))]
+#[tactic(auto, using(rap_grammar_facts::proofs::Alone::alone_less_left, rap_grammar_facts::proofs::Alone::alone_marker_kept, rap_grammar_frame::proofs::Done::marker_kept, rap_grammar_facts::proofs::Attributes::level_attr_mark, rap_grammar_facts::proofs::Attributes::level_attr_brackets), unfolding(rap_grammar_scripts::specs::Attributes::attr))]
 fn attr<G: Grammar>(p: &mut Parser<'_>, g: &G, inner: bool) -> Result<(), NoMemory>
     requires within { Within G.valid G.left g.now (state p.old) }
     requires first { holds (starts_attr inner) (state p.old).rest ≡ true }
-    ensures took { OnOk result (Took (state p.old) (state p.new) list_room) }
     ensures script { OnOk result (Does (G.left g.now) (script.attr inner) something (state p.old) (state p.new)) }
 {
     if p.at(doc_comment(inner)) {
@@ -98,9 +98,7 @@ fn attr<G: Grammar>(p: &mut Parser<'_>, g: &G, inner: bool) -> Result<(), NoMemo
 fn attr_mark(p: &mut Parser<'_>, inner: bool) -> Result<(), NoMemory>
     requires first { holds (starts_attr inner) (state p.old).rest ≡ true }
     requires no_comment { is_at (doc_comment inner) (state p.old).rest ≡ false }
-    ensures took { OnOk result (Took (state p.old) (state p.new) name_room) }
-    ensures script { OnOk result
-        ((depth : ℕ) → Does depth (script.attr_mark inner) something (state p.old) (state p.new)) }
+    ensures script { OnOk result (DoesAlone (script.attr_mark inner) something (state p.old) (state p.new)) }
 {
     p.bump(T![#])?;
     if inner {
@@ -114,7 +112,6 @@ fn attr_mark(p: &mut Parser<'_>, inner: bool) -> Result<(), NoMemory>
 #[tactic(auto, unfolding(rap_grammar_scripts::specs::Attributes::attr_brackets))]
 fn attr_brackets<G: Grammar>(p: &mut Parser<'_>, g: &G) -> Result<(), NoMemory>
     requires within { Within G.valid G.left g.now (state p.old) }
-    ensures grew { OnOk result (Grew (state p.old) (state p.new) 1) }
     ensures script { OnOk result (Does (G.left g.now) script.attr_brackets something (state p.old) (state p.new)) }
 {
     if !p.expect(T!['['])? {
@@ -135,7 +132,7 @@ fn at_called_kw(p: &Parser<'_>, kw: SyntaxKind) -> bool
 }
 
 /// What stands in the brackets of an attribute, as `a = "b"`.
-#[tactic(auto, unfolding(rap_grammar_scripts::specs::Attributes::meta))]
+#[tactic(auto, using(rap_grammar_facts::proofs::Attributes::took_unsafe_meta, rap_grammar_facts::proofs::Attributes::took_cfg_attr_meta, rap_grammar_facts::proofs::Attributes::took_cfg_meta, rap_grammar_facts::proofs::Attributes::grew_path_meta), unfolding(rap_grammar_scripts::specs::Attributes::meta))]
 pub fn meta<G: Grammar>(p: &mut Parser<'_>, g: &G) -> Result<(), NoMemory>
     requires within { Within G.valid G.left g.now (state p.old) }
     ensures grew { OnOk result (Grew (state p.old) (state p.new) 16) }
@@ -161,7 +158,6 @@ pub fn meta<G: Grammar>(p: &mut Parser<'_>, g: &G) -> Result<(), NoMemory>
 fn unsafe_meta<G: Grammar>(p: &mut Parser<'_>, g: &G) -> Result<(), NoMemory>
     requires within { Within G.valid G.left g.now (state p.old) }
     requires here { At (state p.old) UNSAFE_KW }
-    ensures took { OnOk result (Took (state p.old) (state p.new) element_room) }
     ensures script { OnOk result (Does (G.left g.now) script.unsafe_meta something (state p.old) (state p.new)) }
 {
     let m = p.start()?;
@@ -177,7 +173,6 @@ fn unsafe_meta<G: Grammar>(p: &mut Parser<'_>, g: &G) -> Result<(), NoMemory>
 fn cfg_attr_meta<G: Grammar>(p: &mut Parser<'_>, g: &G) -> Result<(), NoMemory>
     requires within { Within G.valid G.left g.now (state p.old) }
     requires here { holds (at_called_kw CFG_ATTR_KW) (state p.old).rest ≡ true }
-    ensures took { OnOk result (Took (state p.old) (state p.new) element_room) }
     ensures script { OnOk result (Does (G.left g.now) script.cfg_attr_meta something (state p.old) (state p.new)) }
 {
     let m = p.start()?;
@@ -195,7 +190,6 @@ fn cfg_attr_meta<G: Grammar>(p: &mut Parser<'_>, g: &G) -> Result<(), NoMemory>
 #[tactic(auto, using(rap_grammar_frame::proofs::Loops::turns), unfolding(rap_grammar_scripts::specs::Attributes::cfg_attr_metas))]
 fn cfg_attr_metas<G: Grammar>(p: &mut Parser<'_>, g: &G) -> Result<(), NoMemory>
     requires behind { Behind G.valid G.left g.now (state p.old) }
-    ensures grew { OnOk result (Grew (state p.old) (state p.new) 16) }
     ensures script { OnOk result (Does (G.left g.now) script.cfg_attr_metas something (state p.old) (state p.new)) }
 {
     'metas: while !p.at(T![')']) && !p.at(SyntaxKind::EOF) {
@@ -211,7 +205,6 @@ fn cfg_attr_metas<G: Grammar>(p: &mut Parser<'_>, g: &G) -> Result<(), NoMemory>
 fn cfg_meta<G: Grammar>(p: &mut Parser<'_>, g: &G) -> Result<(), NoMemory>
     requires within { Within G.valid G.left g.now (state p.old) }
     requires here { holds (at_called_kw CFG_KW) (state p.old).rest ≡ true }
-    ensures took { OnOk result (Took (state p.old) (state p.new) element_room) }
     ensures script { OnOk result (Does (G.left g.now) script.cfg_meta something (state p.old) (state p.new)) }
 {
     let m = p.start()?;
@@ -264,7 +257,7 @@ impl Element for CfgOperand {
 }
 
 /// A condition, as `true`, `a`, `a = "b"` and `any(a, not(b))`.
-#[tactic(auto, unfolding(rap_grammar_scripts::specs::Attributes::cfg_predicate))]
+#[tactic(auto, using(rap_grammar_facts::proofs::Attributes::grew_cfg_value), unfolding(rap_grammar_scripts::specs::Attributes::cfg_predicate))]
 pub fn cfg_predicate<G: Grammar>(p: &mut Parser<'_>, g: &G) -> Result<(), NoMemory>
     requires within { Within G.valid G.left g.now (state p.old) }
     ensures parsed { OnOk result (Parsed is_cfg_predicate_first 8 element_room (state p.old) (state p.new)) }
@@ -294,8 +287,7 @@ pub fn cfg_predicate<G: Grammar>(p: &mut Parser<'_>, g: &G) -> Result<(), NoMemo
 /// What a condition's name is compared with, as `"b"` in `a = "b"`.
 #[tactic(auto, unfolding(rap_grammar_scripts::specs::Attributes::cfg_value))]
 fn cfg_value(p: &mut Parser<'_>) -> Result<(), NoMemory>
-    ensures grew { OnOk result (Grew (state p.old) (state p.new) recovery_events) }
-    ensures script { OnOk result ((depth : ℕ) → Does depth script.cfg_value something (state p.old) (state p.new)) }
+    ensures script { OnOk result (DoesAlone script.cfg_value something (state p.old) (state p.new)) }
 {
     if p.at(T![ident]) {
         p.err_and_bump("expected a string literal")?;
@@ -332,10 +324,9 @@ fn is_value_start(p: &Parser<'_>) -> bool
 }
 
 /// An attribute by its path, as `a::b`, `a = "b"` and `a(b)`.
-#[tactic(auto, unfolding(rap_grammar_scripts::specs::Attributes::path_meta))]
+#[tactic(auto, using(rap_grammar_frame::proofs::Done::less_left, rap_grammar_frame::proofs::Done::marker_kept, rap_grammar_facts::proofs::Paths::level_attr_path, rap_grammar_facts::proofs::Attributes::level_attr_value), unfolding(rap_grammar_scripts::specs::Attributes::path_meta))]
 fn path_meta<G: Grammar>(p: &mut Parser<'_>, g: &G) -> Result<(), NoMemory>
     requires within { Within G.valid G.left g.now (state p.old) }
-    ensures grew { OnOk result (Grew (state p.old) (state p.new) 16) }
     ensures script { OnOk result (Does (G.left g.now) script.path_meta something (state p.old) (state p.new)) }
 {
     let m = p.start()?;
@@ -359,7 +350,6 @@ fn path_meta<G: Grammar>(p: &mut Parser<'_>, g: &G) -> Result<(), NoMemory>
 fn attr_value<G: Grammar>(p: &mut Parser<'_>, g: &G) -> Result<(), NoMemory>
     requires within { Within G.valid G.left g.now (state p.old) }
     requires here { At (state p.old) EQ }
-    ensures took { OnOk result (Took (state p.old) (state p.new) element_room) }
     ensures script { OnOk result (Does (G.left g.now) script.attr_value something (state p.old) (state p.new)) }
 {
     p.bump(T![=])?;

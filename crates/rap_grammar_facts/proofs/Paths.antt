@@ -1,16 +1,23 @@
 -- What is computed of the scripts of Paths: the open nodes are as before, and a token is taken.
 -- Written by crates/rap_grammar_facts/facts from the scripts: an edit here is lost.
-use Rattle.std.proofs.Common.{◌≡◌, ◌<◌, ℕ, Bool, true, false, refl}
+use Rattle.std.proofs.Common.{◌≡◌, ◌<◌, ℕ, Bool, true, false, Some, refl}
 use Rattle.rap_events.specs.State.{state}
 use Rattle.rap_events.specs.declared.parser.Parser.{Parser}
 use Rattle.rap_grammar_scripts.specs.Effects.{level}
 use Rattle.rap_grammar_scripts.specs.Exec.{Does}
-use Rattle.rap_grammar_scripts.specs.Script.{Outcome}
+use Rattle.rap_grammar_scripts.specs.First.{is_path_start}
+use Rattle.rap_grammar_scripts.specs.Script.{Outcome, something}
+use Rattle.rap_grammar_scripts.specs.Test.{holds}
 use Rattle.rap_grammar_scripts.specs.declared.arguments.Mode.{Mode}
 use Rattle.rap_grammar_scripts.specs.declared.arguments.Mode.TheVariants as mode
+use Rattle.rap_grammar_frame.specs.Grew.{Grew, Took, Ended}
+use Rattle.rap_grammar_frame.specs.Room.{path_room, element_room}
 use Rattle.rap_grammar_frame.proofs.Done.{moved}
+use Rattle.rap_grammar_frame.proofs.Ended.{ended, moved_where}
 use Rattle.rap_grammar_facts.specs.Alone.{DoesAlone}
 use Rattle.rap_grammar_facts.proofs.Alone.{kept}
+use Rattle.rap_grammar_facts.proofs.Grown.{grown, took_each}
+use Rattle.rap_grammar_facts.proofs.Moved.{moved_each}
 use Rattle.rap_grammar_scripts.proofs.Scripts.{scripts}
 use Rattle.rap_grammar_scripts.specs.Paths as script
 
@@ -29,6 +36,12 @@ pub moved_return_type_syntax : {v : Outcome} → (p q : Parser) →
     (state q).left < (state p).left
 unfolding scripts
 moved_return_type_syntax p q d = let x = d.at 0 in moved p q x refl
+
+pub ended_path_type_args : {n : ℕ} {m : ℕ} → (p q : Parser) →
+    Does n script.path_type_args something (state p) (state q) →
+    (state p).marker ≡ Some m → Ended (state p) (state q) element_room
+unfolding scripts
+ended_path_type_args p q d e = ended element_room p q d refl (moved_each p q d refl) e
 
 pub level_opt_path_type_args : level script.opt_path_type_args ≡ true
 unfolding scripts
@@ -77,6 +90,16 @@ level_path_for_qualifier mode.Type = refl
 level_path_for_qualifier mode.Expr = refl
 level_path_for_qualifier mode.Vis = refl
 
+pub grew_path_for_qualifier : {n : ℕ} {v : Outcome} (a : Mode) → (p q : Parser) →
+    Does n (script.path_for_qualifier a) v (state p) (state q) →
+    Grew (state p) (state q) 0
+unfolding scripts
+grew_path_for_qualifier mode.Use p q d = grown 0 p q d refl
+grew_path_for_qualifier mode.Attr p q d = grown 0 p q d refl
+grew_path_for_qualifier mode.Type p q d = grown 0 p q d refl
+grew_path_for_qualifier mode.Expr p q d = grown 0 p q d refl
+grew_path_for_qualifier mode.Vis p q d = grown 0 p q d refl
+
 pub level_path : (a : Mode) → level (script.path a) ≡ true
 unfolding scripts
 level_path mode.Use = refl
@@ -84,6 +107,26 @@ level_path mode.Attr = refl
 level_path mode.Type = refl
 level_path mode.Expr = refl
 level_path mode.Vis = refl
+
+pub grew_path : {n : ℕ} {v : Outcome} (a : Mode) → (p q : Parser) →
+    Does n (script.path a) v (state p) (state q) →
+    Grew (state p) (state q) 8
+unfolding scripts
+grew_path mode.Use p q d = grown 8 p q d refl
+grew_path mode.Attr p q d = grown 8 p q d refl
+grew_path mode.Type p q d = grown 8 p q d refl
+grew_path mode.Expr p q d = grown 8 p q d refl
+grew_path mode.Vis p q d = grown 8 p q d refl
+
+pub took_path : {n : ℕ} {v : Outcome} (a : Mode) → (p q : Parser) →
+    Does n (script.path a) v (state p) (state q) →
+    holds is_path_start (state p).rest ≡ true → Took (state p) (state q) path_room
+unfolding scripts
+took_path mode.Use p q d e = took_each path_room p q d refl (moved_where is_path_start p q d refl e)
+took_path mode.Attr p q d e = took_each path_room p q d refl (moved_where is_path_start p q d refl e)
+took_path mode.Type p q d e = took_each path_room p q d refl (moved_where is_path_start p q d refl e)
+took_path mode.Expr p q d e = took_each path_room p q d refl (moved_where is_path_start p q d refl e)
+took_path mode.Vis p q d e = took_each path_room p q d refl (moved_where is_path_start p q d refl e)
 
 pub level_use_path : level script.use_path ≡ true
 unfolding scripts
@@ -115,6 +158,7 @@ pub ruleset facts = (
   level_type_arg_element,
   moved_parenthesized_args,
   moved_return_type_syntax,
+  ended_path_type_args,
   level_opt_path_type_args,
   level_opt_path_args,
   level_anchor_trait,
@@ -122,7 +166,10 @@ pub ruleset facts = (
   moved_type_anchor,
   level_path_segment,
   level_path_for_qualifier,
+  grew_path_for_qualifier,
   level_path,
+  grew_path,
+  took_path,
   level_use_path,
   level_attr_path,
   level_type_path,

@@ -3,18 +3,23 @@
 use Rattle.std.proofs.Common.{◌≡◌, ◌<◌, ℕ, Bool, true, false, refl}
 use Rattle.rap_base.specs.TokenKind.{EOF, R_CURLY}
 use Rattle.rap_events.specs.Composite.{is_at}
-use Rattle.rap_events.specs.State.{state}
+use Rattle.rap_events.specs.State.{state, next}
 use Rattle.rap_events.specs.declared.parser.Parser.{Parser}
 use Rattle.rap_grammar_scripts.specs.Effects.{level}
 use Rattle.rap_grammar_scripts.specs.Exec.{Does}
-use Rattle.rap_grammar_scripts.specs.Script.{Outcome, something}
+use Rattle.rap_grammar_scripts.specs.First.{is_pat_top_first}
+use Rattle.rap_grammar_scripts.specs.Recovery.{stops_of}
+use Rattle.rap_grammar_scripts.specs.Script.{Outcome, nothing, something}
+use Rattle.rap_grammar_scripts.specs.Words.{next_so}
 use Rattle.rap_grammar_frame.specs.Grew.{Grew, Took}
-use Rattle.rap_grammar_frame.specs.Room.{list_room, single_pattern_room}
+use Rattle.rap_grammar_frame.specs.Room.{list_room, single_pattern_room, atom_pattern_room, recovery_events}
+use Rattle.rap_grammar_frame.specs.Rules.{PatternUntil}
 use Rattle.rap_grammar_frame.proofs.Done.{moved, took}
+use Rattle.rap_grammar_frame.proofs.Ended.{moved_where}
 use Rattle.rap_grammar_facts.specs.Alone.{DoesAlone}
 use Rattle.rap_grammar_facts.proofs.Alone.{kept}
-use Rattle.rap_grammar_facts.proofs.Grown.{grown}
-use Rattle.rap_grammar_facts.proofs.Moved.{moved_inside}
+use Rattle.rap_grammar_facts.proofs.Grown.{grown, until, begun}
+use Rattle.rap_grammar_facts.proofs.Moved.{moved_on, moved_inside}
 use Rattle.rap_grammar_scripts.proofs.Scripts.{scripts}
 use Rattle.rap_grammar_scripts.specs.Patterns as script
 
@@ -86,6 +91,10 @@ pub moved_not_null_pat : {n : ℕ} {v : Outcome} → (p q : Parser) →
 unfolding scripts
 moved_not_null_pat p q d = moved p q d refl
 
+pub level_pat_list : (a : ℕ) → level (script.pat_list a) ≡ true
+unfolding scripts
+level_pat_list a = refl
+
 pub level_slice_pat : level script.slice_pat ≡ true
 unfolding scripts
 level_slice_pat = refl
@@ -99,6 +108,13 @@ moved_slice_pat p q d = moved p q d refl
 pub level_leading_comma : level script.leading_comma ≡ true
 unfolding scripts
 level_leading_comma = refl
+
+pub moved_tuple_element : {n : ℕ} {v : Outcome} (a : Bool) → (p q : Parser) →
+    Does n (script.tuple_element a) v (state p) (state q) →
+    is_pat_top_first (next (state p)) ≡ true → (state q).left < (state p).left
+unfolding scripts
+moved_tuple_element true p q d e = moved_where (next_so is_pat_top_first) p q d refl e
+moved_tuple_element false p q d e = moved_where (next_so is_pat_top_first) p q d refl e
 
 pub level_tuple_patterns : (a : Bool) → level (script.tuple_patterns a) ≡ true
 unfolding scripts
@@ -198,6 +214,27 @@ unfolding scripts
 level_atom_pat true = refl
 level_atom_pat false = refl
 
+pub reads_atom_pat : {n : ℕ} (a : Bool) → (p q : Parser) →
+    Does n (script.atom_pat a) nothing (state p) (state q) →
+    PatternUntil (stops_of a) recovery_events atom_pattern_room (state p) (state q)
+unfolding scripts
+reads_atom_pat true p q d = until (stops_of true) recovery_events atom_pattern_room p q d refl refl refl refl
+reads_atom_pat false p q d = until (stops_of false) recovery_events atom_pattern_room p q d refl refl refl refl
+
+pub begins_atom_pat : {n : ℕ} (a : Bool) → (p q : Parser) →
+    Does n (script.atom_pat a) something (state p) (state q) →
+    stops_of a (next (state p)) ≡ false
+unfolding scripts
+begins_atom_pat true p q d = begun (stops_of true) p q d refl
+begins_atom_pat false p q d = begun (stops_of false) p q d refl
+
+pub took_atom_pat : {n : ℕ} (a : Bool) → (p q : Parser) →
+    Does n (script.atom_pat a) something (state p) (state q) →
+    Took (state p) (state q) atom_pattern_room
+unfolding scripts
+took_atom_pat true p q d = took atom_pattern_room p q d refl (moved_on true p q d refl refl)
+took_atom_pat false p q d = took atom_pattern_room p q d refl (moved_on true p q d refl refl)
+
 pub level_range_op : (a : Bool) → level (script.range_op a) ≡ true
 unfolding scripts
 level_range_op true = refl
@@ -280,9 +317,11 @@ pub ruleset facts = (
   moved_ref_pat,
   level_not_null_pat,
   moved_not_null_pat,
+  level_pat_list,
   level_slice_pat,
   moved_slice_pat,
   level_leading_comma,
+  moved_tuple_element,
   level_tuple_patterns,
   level_tuple_pat,
   moved_tuple_pat,
@@ -302,6 +341,9 @@ pub ruleset facts = (
   level_missing_pat,
   level_symbol_pat,
   level_atom_pat,
+  reads_atom_pat,
+  begins_atom_pat,
+  took_atom_pat,
   level_range_op,
   grew_range_op,
   level_range_to_pat,

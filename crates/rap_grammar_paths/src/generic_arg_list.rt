@@ -4,10 +4,9 @@ ghost use Rattle.rap_base.specs.TokenKind.{L_ANGLE, COLON2};
 ghost use Rattle.rap_events.specs.State.{state, next};
 ghost use Rattle.rap_events.specs.Composite.{is_at};
 ghost use Rattle.rap_grammar_scripts.specs.First.{is_generic_arg_first, starts_expr_args};
-ghost use Rattle.rap_grammar_frame.specs.Grew.{Within, Ended, Grew};
+ghost use Rattle.rap_grammar_frame.specs.Grew.{Within, Grew};
 ghost use Rattle.rap_grammar_scripts.specs.Exec.{Does};
 ghost use Rattle.rap_grammar_scripts.specs.GenericArgList as script;
-ghost use Rattle.rap_grammar_frame.specs.Room.{element_room};
 ghost use Rattle.rap_grammar_scripts.specs.Script.{something};
 ghost use Rattle.rap_grammar_scripts.specs.Test.{holds};
 
@@ -47,7 +46,7 @@ impl Element for GenericArg {
 
 /// Arguments in angle brackets, as `<a, 'b, 1>`, whose marker is open.
 #[inline(never)]
-#[tactic(auto, unfolding(rap_grammar_scripts::specs::GenericArgList::generic_arg_list, rap_events::specs::Machine::top))]
+#[tactic(auto, unfolding(rap_grammar_scripts::specs::GenericArgList::generic_arg_list))]
 pub(crate) fn generic_arg_list<G: Grammar>(
     p: &mut Parser<'_>,
     g: &G,
@@ -56,7 +55,6 @@ pub(crate) fn generic_arg_list<G: Grammar>(
     requires within { Within G.valid G.left g.now (state p.old) }
     requires newest { (state p.old).marker ≡ Some m.pos.value }
     requires here { next (state p.old) ≡ L_ANGLE }
-    ensures ended { OnOk result (Ended (state p.old) (state p.new) element_room) }
     ensures script { OnOk result
         (Does (G.left g.now) script.generic_arg_list something (state p.old) (state p.new)) }
 {
@@ -83,7 +81,7 @@ fn starts_expr_args(p: &Parser<'_>) -> bool
 
 /// The arguments after a name in an expression, as `::<a>`, if there are.
 #[inline(always)]
-#[tactic(auto, unfolding(rap_grammar_scripts::specs::GenericArgList::opt_generic_arg_list_expr))]
+#[tactic(auto, using(rap_grammar_facts::proofs::GenericArgList::ended_generic_arg_list), unfolding(rap_grammar_scripts::specs::GenericArgList::opt_generic_arg_list_expr))]
 pub fn opt_generic_arg_list_expr<G: Grammar>(p: &mut Parser<'_>, g: &G) -> Result<(), NoMemory>
     requires within { Within G.valid G.left g.now (state p.old) }
     ensures grew { OnOk result (Grew (state p.old) (state p.new) 0) }

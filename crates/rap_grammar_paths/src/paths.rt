@@ -1,17 +1,17 @@
 //! Paths.
-ghost use Rattle.std.specs.Prelude.{◌≡◌, ◌⊎◌, ◌<◌, ◌≤◌, OnOk, true, IfOk, IfSome, Some, None, ℕ, drop, ◌≢◌};
-ghost use Rattle.rap_base.specs.NodeKind.{PATH, PATH_SEGMENT, PATH_EXPR};
+ghost use Rattle.std.specs.Prelude.{◌≡◌, ◌⊎◌, ◌<◌, ◌≤◌, OnOk, true, IfOk, Some, ℕ, drop};
+ghost use Rattle.rap_base.specs.NodeKind.{PATH};
 ghost use Rattle.rap_base.specs.TokenKind.{COLON2, L_ANGLE, L_PAREN, DOT2};
 ghost use Rattle.rap_base.specs.TokenSet.{member};
-ghost use Rattle.rap_events.specs.State.{state, IsLast, but_last, next};
+ghost use Rattle.rap_events.specs.State.{state, IsLast, next};
 ghost use Rattle.rap_events.specs.Composite.{is_at};
-ghost use Rattle.rap_grammar_scripts.specs.Atom as atom_script;
-ghost use Rattle.rap_grammar_scripts.specs.First.{is_path_start, is_path_name};
-ghost use Rattle.rap_grammar_frame.specs.Grew.{Within, Grew, Took, Behind, Spent, Closes, Dropped, Ended, Makes};
+ghost use Rattle.rap_grammar_scripts.specs.First.{is_path_start};
+ghost use Rattle.rap_grammar_frame.specs.Grew.{Within, Grew, Took, Behind};
 ghost use Rattle.rap_grammar_scripts.specs.Exec.{Does};
+ghost use Rattle.rap_grammar_facts.specs.Alone.{DoesAlone};
 ghost use Rattle.rap_grammar_scripts.specs.Paths as script;
 ghost use Rattle.rap_grammar_scripts.specs.Recovery.{is_segment_recovery};
-ghost use Rattle.rap_grammar_frame.specs.Room.{path_room, segment_room, name_room, name_end_room, element_room, atom_room, dropped_events};
+ghost use Rattle.rap_grammar_frame.specs.Room.{path_room};
 ghost use Rattle.rap_grammar_scripts.specs.Script.{something};
 ghost use Rattle.rap_grammar_scripts.specs.Test.{holds};
 ghost use Rattle.rap_grammar_scripts.specs.Words.{of_option};
@@ -33,7 +33,7 @@ use rap_grammar_scripts::rule::Rule;
 
 /// A path in an import, as `a::b`, and where an item may be a macro call.
 #[inline(never)]
-#[tactic(auto, unfolding(rap_grammar_scripts::specs::Paths::use_path))]
+#[tactic(auto, using(rap_grammar_facts::proofs::Paths::grew_path), unfolding(rap_grammar_scripts::specs::Paths::use_path))]
 pub fn use_path<G: Grammar>(p: &mut Parser<'_>, g: &G) -> Result<(), NoMemory>
     requires within { Within G.valid G.left g.now (state p.old) }
     ensures grew { OnOk result (Grew (state p.old) (state p.new) 8) }
@@ -50,7 +50,6 @@ pub fn use_path<G: Grammar>(p: &mut Parser<'_>, g: &G) -> Result<(), NoMemory>
 #[tactic(auto, unfolding(rap_grammar_scripts::specs::Paths::vis_path))]
 pub fn vis_path<G: Grammar>(p: &mut Parser<'_>, g: &G) -> Result<(), NoMemory>
     requires within { Within G.valid G.left g.now (state p.old) }
-    ensures grew { OnOk result (Grew (state p.old) (state p.new) 8) }
     ensures script { OnOk result (Does (G.left g.now) script.vis_path something (state p.old) (state p.new)) }
 {
     path(p, g, Mode::Vis)?;
@@ -62,9 +61,6 @@ pub fn vis_path<G: Grammar>(p: &mut Parser<'_>, g: &G) -> Result<(), NoMemory>
 #[tactic(auto, unfolding(rap_grammar_scripts::specs::Paths::attr_path))]
 pub fn attr_path<G: Grammar>(p: &mut Parser<'_>, g: &G) -> Result<(), NoMemory>
     requires within { Within G.valid G.left g.now (state p.old) }
-    ensures grew { OnOk result (Grew (state p.old) (state p.new) 8) }
-    ensures took { OnOk result
-        (holds is_path_start (state p.old).rest ≡ true → Took (state p.old) (state p.new) path_room) }
     ensures script { OnOk result (Does (G.left g.now) script.attr_path something (state p.old) (state p.new)) }
 {
     path(p, g, Mode::Attr)?;
@@ -86,7 +82,7 @@ pub fn type_path<G: Grammar>(p: &mut Parser<'_>, g: &G) -> Result<(), NoMemory>
 
 /// A path in a type, where one may be missing, as after the `sym` of inline assembly or at the front of an input.
 #[inline(never)]
-#[tactic(auto, unfolding(rap_grammar_scripts::specs::Paths::type_path))]
+#[tactic(auto, using(rap_grammar_facts::proofs::Paths::grew_path), unfolding(rap_grammar_scripts::specs::Paths::type_path))]
 pub fn sym_path<G: Grammar>(p: &mut Parser<'_>, g: &G) -> Result<(), NoMemory>
     requires within { Within G.valid G.left g.now (state p.old) }
     ensures grew { OnOk result (Grew (state p.old) (state p.new) 8) }
@@ -111,7 +107,7 @@ pub fn expr_path<G: Grammar>(p: &mut Parser<'_>, g: &G) -> Result<(), NoMemory>
 
 /// The segments after a first path in a type, as `::b<c>` after `a`.
 #[inline(never)]
-#[tactic(auto, unfolding(rap_grammar_scripts::specs::Paths::type_path_for_qualifier))]
+#[tactic(auto, using(rap_grammar_facts::proofs::Paths::grew_path_for_qualifier), unfolding(rap_grammar_scripts::specs::Paths::type_path_for_qualifier))]
 pub fn type_path_for_qualifier<G: Grammar>(
     p: &mut Parser<'_>,
     g: &G,
@@ -121,7 +117,6 @@ pub fn type_path_for_qualifier<G: Grammar>(
     requires last { IsLast (state p.old) qual PATH }
     ensures grew { OnOk result (Grew (state p.old) (state p.new) 0) }
     ensures last { IfOk result (λ cm. IsLast (state p.new) cm PATH) }
-    ensures one { OnOk result (but_last (state p.new).forest ≡ but_last (state p.old).forest) }
     ensures script { OnOk result
         (Does (G.left g.now) script.type_path_for_qualifier something (state p.old) (state p.new)) }
 {
@@ -131,18 +126,13 @@ pub fn type_path_for_qualifier<G: Grammar>(
 
 /// A path. None, and a message, where no name follows and nothing was taken.
 #[inline(always)]
-#[tactic(auto, unfolding(rap_grammar_scripts::specs::Paths::path))]
+#[tactic(auto, using(rap_grammar_frame::proofs::Done::less_left, rap_grammar_frame::proofs::Done::marker_kept, rap_grammar_facts::proofs::Paths::level_path_segment), unfolding(rap_grammar_scripts::specs::Paths::path))]
 fn path<G: Grammar>(
     p: &mut Parser<'_>,
     g: &G,
     mode: Mode,
 ) -> Result<Option<CompletedMarker>, NoMemory>
     requires within { Within G.valid G.left g.now (state p.old) }
-    ensures grew { OnOk result (Grew (state p.old) (state p.new) 8) }
-    ensures took { OnOk result
-        (holds is_path_start (state p.old).rest ≡ true → Took (state p.old) (state p.new) path_room) }
-    ensures some { IfOk result
-        (λ o. IfSome o (λ cm. IsLast (state p.new) cm PATH × (but_last (state p.new).forest ≡ (state p.old).forest))) }
     ensures script { IfOk result
         (λ o. Does (G.left g.now) (script.path mode) (of_option o) (state p.old) (state p.new)) }
 {
@@ -170,7 +160,7 @@ fn has_segment(p: &Parser<'_>, mode: Mode) -> bool
 
 /// The segments after a first path, as `::b::c` after `a`.
 #[inline(always)]
-#[tactic(auto, using(rap_grammar_frame::proofs::Loops::turns), unfolding(rap_grammar_scripts::specs::Paths::path_for_qualifier))]
+#[tactic(auto, using(rap_grammar_frame::proofs::Loops::turns, rap_grammar_frame::proofs::Done::less_left, rap_grammar_frame::proofs::Done::marker_kept, rap_grammar_facts::proofs::Paths::level_path_segment), unfolding(rap_grammar_scripts::specs::Paths::path_for_qualifier))]
 fn path_for_qualifier<G: Grammar>(
     p: &mut Parser<'_>,
     g: &G,
@@ -179,9 +169,7 @@ fn path_for_qualifier<G: Grammar>(
 ) -> Result<CompletedMarker, NoMemory>
     requires within { Within G.valid G.left g.now (state p.old) }
     requires last { IsLast (state p.old) qual PATH }
-    ensures grew { OnOk result (Grew (state p.old) (state p.new) 0) }
     ensures last { IfOk result (λ cm. IsLast (state p.new) cm PATH) }
-    ensures one { OnOk result (but_last (state p.new).forest ≡ but_last (state p.old).forest) }
     ensures script { OnOk result
         (Does (G.left g.now) (script.path_for_qualifier mode) something (state p.old) (state p.new)) }
 {
@@ -197,7 +185,7 @@ fn path_for_qualifier<G: Grammar>(
 /// A segment of a path, as `a`, and `::a` and `<a as b>` where it is the first. None, and a message, where no name
 /// follows.
 #[inline(always)]
-#[tactic(auto, unfolding(rap_grammar_scripts::specs::Paths::path_segment))]
+#[tactic(auto, using(rap_grammar_frame::proofs::Done::marker_kept, rap_grammar_facts::proofs::Paths::level_type_anchor), unfolding(rap_grammar_scripts::specs::Paths::path_segment))]
 fn path_segment<G: Grammar>(
     p: &mut Parser<'_>,
     g: &G,
@@ -205,12 +193,6 @@ fn path_segment<G: Grammar>(
     first: bool,
 ) -> Result<Option<CompletedMarker>, NoMemory>
     requires within { Within G.valid G.left g.now (state p.old) }
-    ensures grew { OnOk result (Grew (state p.old) (state p.new) 6) }
-    ensures some { IfOk result
-        (λ o. IfSome o
-        (λ cm. IsLast (state p.new) cm PATH_SEGMENT × (but_last (state p.new).forest ≡ (state p.old).forest))) }
-    ensures took { OnOk result
-        (first ≡ true → holds is_path_start (state p.old).rest ≡ true → Took (state p.old) (state p.new) segment_room) }
     ensures script { IfOk result
         (λ o. Does (G.left g.now) (script.path_segment mode first) (of_option o) (state p.old) (state p.new)) }
 {
@@ -234,11 +216,10 @@ fn path_segment<G: Grammar>(
 
 /// A type, and its trait, in the angle brackets that a path begins with, as the `<a as b>` of `<a as b>::c`.
 #[inline(always)]
-#[tactic(auto, unfolding(rap_grammar_scripts::specs::Paths::type_anchor))]
+#[tactic(auto, using(rap_grammar_frame::proofs::Done::marker_kept, rap_grammar_facts::proofs::Paths::level_anchor_trait), unfolding(rap_grammar_scripts::specs::Paths::type_anchor))]
 fn type_anchor<G: Grammar>(p: &mut Parser<'_>, g: &G) -> Result<(), NoMemory>
     requires within { Within G.valid G.left g.now (state p.old) }
     requires here { next (state p.old) ≡ L_ANGLE }
-    ensures took { OnOk result (Took (state p.old) (state p.new) name_room) }
     ensures script { OnOk result (Does (G.left g.now) script.type_anchor something (state p.old) (state p.new)) }
 {
     let m = p.start()?;
@@ -257,7 +238,6 @@ fn type_anchor<G: Grammar>(p: &mut Parser<'_>, g: &G) -> Result<(), NoMemory>
 #[tactic(auto, unfolding(rap_grammar_scripts::specs::Paths::anchor_trait, rap_grammar_scripts::specs::ThroughKnot::path_type_bounds))]
 fn anchor_trait<G: Grammar>(p: &mut Parser<'_>, g: &G) -> Result<(), NoMemory>
     requires behind { Behind G.valid G.left g.now (state p.old) }
-    ensures grew { OnOk result (Grew (state p.old) (state p.new) 0) }
     ensures script { OnOk result (Does (G.left g.now) script.anchor_trait something (state p.old) (state p.new)) }
 {
     if !p.eat(T![as])? {
@@ -274,7 +254,7 @@ fn anchor_trait<G: Grammar>(p: &mut Parser<'_>, g: &G) -> Result<(), NoMemory>
 /// The name of a segment whose marker is open, and the arguments after it, as `a::<b>`. None, and a message, where no
 /// name follows and nothing was taken.
 #[inline(always)]
-#[tactic(auto, unfolding(rap_grammar_scripts::specs::Paths::segment_name))]
+#[tactic(auto, using(rap_grammar_frame::proofs::Done::marker_kept, rap_grammar_facts::proofs::Paths::level_opt_path_args), unfolding(rap_grammar_scripts::specs::Paths::segment_name))]
 fn segment_name<G: Grammar>(
     p: &mut Parser<'_>,
     g: &G,
@@ -284,9 +264,6 @@ fn segment_name<G: Grammar>(
 ) -> Result<Option<CompletedMarker>, NoMemory>
     requires within { Within G.valid G.left g.now (state p.old) }
     requires newest { (state p.old).marker ≡ Some m.pos.value }
-    ensures some { IfOk result (λ o. IfSome o (λ cm. Closes PATH_SEGMENT 4 (state p.old) (state p.new) cm)) }
-    ensures none { IfOk result (λ o. o ≡ None → Dropped (state p.old) (state p.new) dropped_events) }
-    ensures took { OnOk result (is_path_name (next (state p.old)) ≡ true → Spent (state p.old) (state p.new) name_end_room) }
     ensures script { IfOk result
         (λ o. Does (G.left g.now) (script.segment_name mode empty) (of_option o) (state p.old) (state p.new)) }
 {
@@ -311,11 +288,8 @@ fn missing_segment_name(
     empty: bool,
 ) -> Result<Option<CompletedMarker>, NoMemory>
     requires newest { (state p.old).marker ≡ Some m.pos.value }
-    ensures some { IfOk result (λ o. IfSome o (λ cm. Closes PATH_SEGMENT 4 (state p.old) (state p.new) cm)) }
-    ensures none { IfOk result (λ o. o ≡ None → Dropped (state p.old) (state p.new) dropped_events) }
     ensures script { IfOk result
-        (λ o. (depth : ℕ) → Does depth (script.missing_segment_name mode empty) (of_option o) (state p.old)
-        (state p.new)) }
+        (λ o. DoesAlone (script.missing_segment_name mode empty) (of_option o) (state p.old) (state p.new)) }
 {
     let stopped = p.err_recover(
         "expected identifier, `self`, `super`, `crate`, or `Self`",
@@ -347,7 +321,6 @@ fn segment_recovery_set(mode: Mode) -> TokenSet
 #[tactic(auto, unfolding(rap_grammar_scripts::specs::Paths::opt_path_args))]
 fn opt_path_args<G: Grammar>(p: &mut Parser<'_>, g: &G, mode: Mode) -> Result<(), NoMemory>
     requires within { Within G.valid G.left g.now (state p.old) }
-    ensures grew { OnOk result (Grew (state p.old) (state p.new) 0) }
     ensures script { OnOk result
         (Does (G.left g.now) (script.opt_path_args mode) something (state p.old) (state p.new)) }
 {
@@ -380,7 +353,7 @@ fn has_args(p: &Parser<'_>) -> bool
 
 /// The arguments after a name in a type, as `<a>`, `::<a>` and `(a) -> b`, if there are.
 #[inline(always)]
-#[tactic(auto, unfolding(rap_grammar_scripts::specs::Paths::opt_path_type_args))]
+#[tactic(auto, using(rap_grammar_facts::proofs::Paths::ended_path_type_args), unfolding(rap_grammar_scripts::specs::Paths::opt_path_type_args))]
 pub fn opt_path_type_args<G: Grammar>(p: &mut Parser<'_>, g: &G) -> Result<(), NoMemory>
     requires within { Within G.valid G.left g.now (state p.old) }
     ensures grew { OnOk result (Grew (state p.old) (state p.new) 0) }
@@ -407,7 +380,6 @@ fn path_type_args<G: Grammar>(p: &mut Parser<'_>, g: &G, m: Marker) -> Result<()
     requires within { Within G.valid G.left g.now (state p.old) }
     requires newest { (state p.old).marker ≡ Some m.pos.value }
     requires here { (next (state p.old) ≡ L_PAREN) ⊎ (next (state p.old) ≡ L_ANGLE) }
-    ensures ended { OnOk result (Ended (state p.old) (state p.new) element_room) }
     ensures script { OnOk result
         (Does (G.left g.now) script.path_type_args something (state p.old) (state p.new)) }
 {
@@ -424,14 +396,12 @@ fn path_type_args<G: Grammar>(p: &mut Parser<'_>, g: &G, m: Marker) -> Result<()
 }
 
 /// Two dots in parentheses, for any return type, as `(..)` after `a::b`. The marker is open.
-#[tactic(auto, unfolding(rap_grammar_scripts::specs::Paths::return_type_syntax, rap_events::specs::Machine::top))]
+#[tactic(auto, unfolding(rap_grammar_scripts::specs::Paths::return_type_syntax))]
 fn return_type_syntax(p: &mut Parser<'_>, m: Marker) -> Result<(), NoMemory>
     requires newest { (state p.old).marker ≡ Some m.pos.value }
     requires here { next (state p.old) ≡ L_PAREN }
     requires dots { is_at DOT2 (drop 1 (state p.old).rest) ≡ true }
-    ensures ended { OnOk result (Ended (state p.old) (state p.new) element_room) }
-    ensures script { OnOk result
-        ((depth : ℕ) → Does depth script.return_type_syntax something (state p.old) (state p.new)) }
+    ensures script { OnOk result (DoesAlone script.return_type_syntax something (state p.old) (state p.new)) }
 {
     p.bump(T!['('])?;
     p.bump(T![..])?;
@@ -441,12 +411,11 @@ fn return_type_syntax(p: &mut Parser<'_>, m: Marker) -> Result<(), NoMemory>
 }
 
 /// The types of a function's parameters and its return type, as `(a, b) -> c` after `Fn`. The marker is open.
-#[tactic(auto, unfolding(rap_grammar_scripts::specs::Paths::parenthesized_args, rap_events::specs::Machine::top))]
+#[tactic(auto, unfolding(rap_grammar_scripts::specs::Paths::parenthesized_args))]
 fn parenthesized_args<G: Grammar>(p: &mut Parser<'_>, g: &G, m: Marker) -> Result<(), NoMemory>
     requires within { Within G.valid G.left g.now (state p.old) }
     requires newest { (state p.old).marker ≡ Some m.pos.value }
     requires here { next (state p.old) ≡ L_PAREN }
-    ensures ended { OnOk result (Ended (state p.old) (state p.new) element_room) }
     ensures script { OnOk result
         (Does (G.left g.now) script.parenthesized_args something (state p.old) (state p.new)) }
 {

@@ -68,7 +68,7 @@ fn starts_in_restriction(p: &Parser<'_>) -> bool
 }
 
 /// A restriction in its parentheses, as `(crate)` and `(in a::b)`, if it comes next. Returns whether it does.
-#[tactic(auto, unfolding(rap_grammar_scripts::specs::Visibility::opt_visibility_inner))]
+#[tactic(auto, using(rap_grammar_facts::proofs::Visibility::took_restriction, rap_grammar_facts::proofs::Visibility::took_in_restriction), unfolding(rap_grammar_scripts::specs::Visibility::opt_visibility_inner))]
 pub fn opt_visibility_inner<G: Grammar>(
     p: &mut Parser<'_>,
     g: &G,
@@ -93,11 +93,10 @@ pub fn opt_visibility_inner<G: Grammar>(
 }
 
 /// A restriction to a module, as `(crate)`.
-#[tactic(auto, unfolding(rap_grammar_scripts::specs::Visibility::restriction))]
+#[tactic(auto, using(rap_grammar_frame::proofs::Done::marker_kept, rap_grammar_facts::proofs::Paths::level_vis_path), unfolding(rap_grammar_scripts::specs::Visibility::restriction))]
 fn restriction<G: Grammar>(p: &mut Parser<'_>, g: &G) -> Result<(), NoMemory>
     requires within { Within G.valid G.left g.now (state p.old) }
     requires here { next (state p.old) ≡ L_PAREN }
-    ensures took { OnOk result (Took (state p.old) (state p.new) list_room) }
     ensures script { OnOk result (Does (G.left g.now) script.restriction something (state p.old) (state p.new)) }
 {
     let m = p.start()?;
@@ -109,12 +108,11 @@ fn restriction<G: Grammar>(p: &mut Parser<'_>, g: &G) -> Result<(), NoMemory>
 }
 
 /// A restriction with `in`, as `(in a::b)`.
-#[tactic(auto, unfolding(rap_grammar_scripts::specs::Visibility::in_restriction))]
+#[tactic(auto, using(rap_grammar_frame::proofs::Done::marker_kept, rap_grammar_facts::proofs::Paths::level_vis_path), unfolding(rap_grammar_scripts::specs::Visibility::in_restriction))]
 fn in_restriction<G: Grammar>(p: &mut Parser<'_>, g: &G) -> Result<(), NoMemory>
     requires within { Within G.valid G.left g.now (state p.old) }
     requires here { next (state p.old) ≡ L_PAREN }
     requires more { NthAt (state p.old) 1 IN_KW }
-    ensures took { OnOk result (Took (state p.old) (state p.new) list_room) }
     ensures script { OnOk result (Does (G.left g.now) script.in_restriction something (state p.old) (state p.new)) }
 {
     let m = p.start()?;

@@ -1,17 +1,17 @@
 //! Patterns.
-ghost use Rattle.std.specs.Prelude.{Bool, ◌≡◌, ◌≢◌, ◌<◌, ◌≤◌, ◌∷◌, ℕ, OnOk, IfOk, true, [], false};
+ghost use Rattle.std.specs.Prelude.{◌≡◌, ◌≢◌, ◌<◌, ◌≤◌, ◌∷◌, ℕ, OnOk, IfOk, IfSome, true, [], false};
 ghost use Rattle.rap_base.specs.TokenSet.{member};
 ghost use Rattle.rap_base.specs.TokenKind.{DOT2EQ, DOT2, EOF, AMP, POUND, BUILTIN_KW, L_PAREN, L_CURLY, R_CURLY, UNDERSCORE, BANG, L_BRACK, IDENT, MUT_KW, REF_KW, BOX_KW, CONST_KW};
-ghost use Rattle.rap_base.specs.NodeKind.{LITERAL_PAT, WILDCARD_PAT, REF_PAT, NOT_NULL, SLICE_PAT, IDENT_PAT, BOX_PAT, CONST_BLOCK_PAT};
 ghost use Rattle.rap_events.specs.State.{state, At, IsLast, next, NthAt, ReadsAs};
 ghost use Rattle.rap_grammar_scripts.specs.First.{is_range_pat_end_first, is_path_start, is_pat_top_first, one_of};
-ghost use Rattle.rap_grammar_frame.specs.Grew.{Within, Grew, Took, Makes, Made, Behind};
+ghost use Rattle.rap_grammar_frame.specs.Grew.{Within, Grew, Behind};
 ghost use Rattle.rap_grammar_scripts.specs.Exec.{Does};
+ghost use Rattle.rap_grammar_facts.specs.Alone.{DoesAlone};
 ghost use Rattle.rap_grammar_scripts.specs.Patterns as script;
 ghost use Rattle.rap_grammar_scripts.specs.Patterns.{ends_range_pat, is_ident_pat_start, is_literal_pat_start, at_field, is_rest_pat, ends_search};
 ghost use Rattle.rap_grammar_scripts.specs.Recovery.{is_pattern_recovery, stops_of};
-ghost use Rattle.rap_grammar_frame.specs.Room.{element_room, pattern_room, single_pattern_room, atom_pattern_room, name_room, recovery_events};
-ghost use Rattle.rap_grammar_frame.specs.Rules.{IsAtomPattern, PatternUntil};
+ghost use Rattle.rap_grammar_frame.specs.Room.{pattern_room, single_pattern_room, recovery_events};
+ghost use Rattle.rap_grammar_frame.specs.Rules.{PatternUntil};
 ghost use Rattle.rap_grammar_scripts.specs.Script.{something, nothing, again};
 ghost use Rattle.rap_grammar_scripts.specs.Test.{holds};
 ghost use Rattle.rap_grammar_scripts.specs.Words.{of_option, of_bool};
@@ -119,7 +119,7 @@ pub fn pattern_elsewhere<G: Grammar>(p: &mut Parser<'_>, g: &G) -> Result<(), No
 
 /// A pattern without alternatives, as `a`, `0..=9`, `..9` and `..`.
 #[inline(always)]
-#[tactic(auto, unfolding(rap_grammar_scripts::specs::Patterns::pattern_single_r))]
+#[tactic(auto, using(rap_grammar_frame::proofs::Done::less_left), unfolding(rap_grammar_scripts::specs::Patterns::pattern_single_r))]
 pub fn pattern_single_r<G: Grammar>(p: &mut Parser<'_>, g: &G, in_arm: bool) -> Result<(), NoMemory>
     requires within { Within G.valid G.left g.now (state p.old) }
     ensures reads { OnOk result (PatternUntil (stops_of in_arm) recovery_events single_pattern_room (state p.old) (state p.new)) }
@@ -153,7 +153,7 @@ pub fn pattern_single_elsewhere<G: Grammar>(p: &mut Parser<'_>, g: &G) -> Result
 }
 
 /// A range without a start, as `..=9`.
-#[tactic(auto, unfolding(rap_grammar_scripts::specs::Patterns::range_to_pat))]
+#[tactic(auto, using(rap_grammar_frame::proofs::Done::marker_kept, rap_grammar_facts::proofs::Patterns::level_atom_pat), unfolding(rap_grammar_scripts::specs::Patterns::range_to_pat))]
 fn range_to_pat<G: Grammar>(p: &mut Parser<'_>, g: &G, in_arm: bool) -> Result<(), NoMemory>
     requires within { Within G.valid G.left g.now (state p.old) }
     requires here { At (state p.old) DOT2EQ }
@@ -168,7 +168,7 @@ fn range_to_pat<G: Grammar>(p: &mut Parser<'_>, g: &G, in_arm: bool) -> Result<(
 }
 
 /// The rest of a list, as the `..` of `[a, ..]`, and a range without a start, as `..9`.
-#[tactic(auto, unfolding(rap_grammar_scripts::specs::Patterns::rest_pat))]
+#[tactic(auto, using(rap_grammar_frame::proofs::Done::marker_kept, rap_grammar_facts::proofs::Patterns::level_atom_pat), unfolding(rap_grammar_scripts::specs::Patterns::rest_pat))]
 fn rest_pat<G: Grammar>(p: &mut Parser<'_>, g: &G, in_arm: bool) -> Result<(), NoMemory>
     requires within { Within G.valid G.left g.now (state p.old) }
     requires here { At (state p.old) DOT2 }
@@ -258,7 +258,7 @@ fn atom_pat<G: Grammar>(
     in_arm: bool,
 ) -> Result<Option<CompletedMarker>, NoMemory>
     requires within { Within G.valid G.left g.now (state p.old) }
-    ensures atom { IfOk result (IsAtomPattern in_arm (state p.old) (state p.new)) }
+    ensures last { IfOk result (λ o. IfSome o (λ cm. IsLast (state p.new) cm cm.kind.value)) }
     ensures script { IfOk result
         (λ o. Does (G.left g.now) (script.atom_pat in_arm) (of_option o) (state p.old) (state p.new)) }
 {
@@ -294,7 +294,7 @@ fn symbol_pat<G: Grammar>(
     in_arm: bool,
 ) -> Result<Option<CompletedMarker>, NoMemory>
     requires within { Within G.valid G.left g.now (state p.old) }
-    ensures atom { IfOk result (IsAtomPattern in_arm (state p.old) (state p.new)) }
+    ensures last { IfOk result (λ o. IfSome o (λ cm. IsLast (state p.new) cm cm.kind.value)) }
     ensures script { IfOk result
         (λ o. Does (G.left g.now) (script.symbol_pat in_arm) (of_option o) (state p.old) (state p.new)) }
 {
@@ -316,25 +316,21 @@ fn symbol_pat<G: Grammar>(
 
 /// No pattern begins: the next token is skipped too, unless it is a brace or ends the search.
 #[inline(never)]
-#[tactic(auto, using(rap_grammar_frame::proofs::Patterning::missing), unfolding(rap_grammar_scripts::specs::Patterns::missing_pat))]
+#[tactic(auto, unfolding(rap_grammar_scripts::specs::Patterns::missing_pat))]
 fn missing_pat(p: &mut Parser<'_>, in_arm: bool) -> Result<(), NoMemory>
-    requires no_reference { next (state p.old) ≢ AMP }
-    requires end { next (state p.old) ≡ EOF → (state p.old).rest ≡ [] }
-    ensures reads { OnOk result (PatternUntil (stops_of in_arm) recovery_events atom_pattern_room (state p.old) (state p.new)) }
-    ensures script { OnOk result
-        ((depth : ℕ) → Does depth (script.missing_pat in_arm) nothing (state p.old) (state p.new)) }
+    ensures script { OnOk result (DoesAlone (script.missing_pat in_arm) nothing (state p.old) (state p.new)) }
 {
     p.err_recover("expected pattern", recovery_set(in_arm))?;
     Ok(())
 }
 
 /// A pattern after `builtin#`, as `builtin#deref(a)` and `builtin#cfg(unix)`. An unknown name is not taken.
-#[tactic(auto, using(rap_grammar_frame::proofs::Patterning::builtin_no_stop, rap_grammar_frame::proofs::Patterning::no_stop_there), unfolding(rap_grammar_scripts::specs::Patterns::builtin_pat))]
+#[tactic(auto, unfolding(rap_grammar_scripts::specs::Patterns::builtin_pat))]
 fn builtin_pat<G: Grammar>(p: &mut Parser<'_>, g: &G) -> Result<Option<CompletedMarker>, NoMemory>
     requires within { Within G.valid G.left g.now (state p.old) }
     requires here { ReadsAs (state p.old) BUILTIN_KW }
     requires pound { NthAt (state p.old) 1 POUND }
-    ensures atom { IfOk result (λ o. (in_arm : Bool) → IsAtomPattern in_arm (state p.old) (state p.new) o) }
+    ensures last { IfOk result (λ o. IfSome o (λ cm. IsLast (state p.new) cm cm.kind.value)) }
     ensures script { IfOk result
         (λ o. Does (G.left g.now) script.builtin_pat (of_option o) (state p.old) (state p.new)) }
 {
@@ -374,8 +370,8 @@ fn is_literal_pat_start(p: &Parser<'_>) -> bool
 #[tactic(auto, unfolding(rap_grammar_scripts::specs::Patterns::literal_pat))]
 fn literal_pat(p: &mut Parser<'_>) -> Result<CompletedMarker, NoMemory>
     requires here { holds is_literal_pat_start (state p.old).rest ≡ true }
-    ensures made { IfOk result (Makes LITERAL_PAT atom_pattern_room (state p.old) (state p.new)) }
-    ensures script { OnOk result ((depth : ℕ) → Does depth script.literal_pat something (state p.old) (state p.new)) }
+    ensures last { IfOk result (λ cm. IsLast (state p.new) cm cm.kind.value) }
+    ensures script { OnOk result (DoesAlone script.literal_pat something (state p.old) (state p.new)) }
 {
     let m = p.start()?;
     p.eat(T![-])?;
@@ -390,7 +386,7 @@ fn literal_pat(p: &mut Parser<'_>) -> Result<CompletedMarker, NoMemory>
 fn path_or_macro_pat<G: Grammar>(p: &mut Parser<'_>, g: &G) -> Result<CompletedMarker, NoMemory>
     requires within { Within G.valid G.left g.now (state p.old) }
     requires path { holds is_path_start (state p.old).rest ≡ true }
-    ensures made { IfOk result (λ cm. Made (state p.old) (state p.new) cm atom_pattern_room) }
+    ensures last { IfOk result (λ cm. IsLast (state p.new) cm cm.kind.value) }
     ensures script { OnOk result (Does (G.left g.now) script.path_or_macro_pat something (state p.old) (state p.new)) }
 {
     let m = p.start()?;
@@ -546,8 +542,8 @@ fn record_pat_element<G: Grammar>(p: &mut Parser<'_>, g: &G) -> Result<(), NoMem
 #[tactic(auto, unfolding(rap_grammar_scripts::specs::Patterns::wildcard_pat))]
 fn wildcard_pat(p: &mut Parser<'_>) -> Result<CompletedMarker, NoMemory>
     requires here { next (state p.old) ≡ UNDERSCORE }
-    ensures made { IfOk result (Makes WILDCARD_PAT atom_pattern_room (state p.old) (state p.new)) }
-    ensures script { OnOk result ((depth : ℕ) → Does depth script.wildcard_pat something (state p.old) (state p.new)) }
+    ensures last { IfOk result (λ cm. IsLast (state p.new) cm cm.kind.value) }
+    ensures script { OnOk result (DoesAlone script.wildcard_pat something (state p.old) (state p.new)) }
 {
     let m = p.start()?;
     p.bump(T![_])?;
@@ -560,7 +556,7 @@ fn wildcard_pat(p: &mut Parser<'_>) -> Result<CompletedMarker, NoMemory>
 fn ref_pat<G: Grammar>(p: &mut Parser<'_>, g: &G) -> Result<CompletedMarker, NoMemory>
     requires within { Within G.valid G.left g.now (state p.old) }
     requires here { next (state p.old) ≡ AMP }
-    ensures made { IfOk result (Makes REF_PAT atom_pattern_room (state p.old) (state p.new)) }
+    ensures last { IfOk result (λ cm. IsLast (state p.new) cm cm.kind.value) }
     ensures script { OnOk result (Does (G.left g.now) script.ref_pat something (state p.old) (state p.new)) }
 {
     let m = p.start()?;
@@ -576,7 +572,7 @@ fn ref_pat<G: Grammar>(p: &mut Parser<'_>, g: &G) -> Result<CompletedMarker, NoM
 fn not_null_pat<G: Grammar>(p: &mut Parser<'_>, g: &G) -> Result<CompletedMarker, NoMemory>
     requires within { Within G.valid G.left g.now (state p.old) }
     requires here { next (state p.old) ≡ BANG }
-    ensures made { IfOk result (Makes NOT_NULL atom_pattern_room (state p.old) (state p.new)) }
+    ensures last { IfOk result (λ cm. IsLast (state p.new) cm cm.kind.value) }
     ensures script { OnOk result (Does (G.left g.now) script.not_null_pat something (state p.old) (state p.new)) }
 {
     let m = p.start()?;
@@ -588,11 +584,11 @@ fn not_null_pat<G: Grammar>(p: &mut Parser<'_>, g: &G) -> Result<CompletedMarker
 
 /// A pattern in parentheses, as `(a)`, or a tuple, as `()`, `(a,)` and `(..)`.
 #[inline(never)]
-#[tactic(auto, unfolding(rap_grammar_scripts::specs::Patterns::tuple_pat))]
+#[tactic(auto, using(rap_grammar_facts::proofs::Alone::alone_less_left, rap_grammar_facts::proofs::Alone::alone_marker_kept, rap_grammar_facts::proofs::Patterns::level_leading_comma, rap_grammar_frame::proofs::Done::marker_kept, rap_grammar_facts::proofs::Patterns::level_tuple_patterns), unfolding(rap_grammar_scripts::specs::Patterns::tuple_pat))]
 fn tuple_pat<G: Grammar>(p: &mut Parser<'_>, g: &G) -> Result<CompletedMarker, NoMemory>
     requires within { Within G.valid G.left g.now (state p.old) }
     requires here { next (state p.old) ≡ L_PAREN }
-    ensures made { IfOk result (λ cm. Made (state p.old) (state p.new) cm atom_pattern_room) }
+    ensures last { IfOk result (λ cm. IsLast (state p.new) cm cm.kind.value) }
     ensures script { OnOk result (Does (G.left g.now) script.tuple_pat something (state p.old) (state p.new)) }
 {
     let m = p.start()?;
@@ -612,9 +608,8 @@ fn tuple_pat<G: Grammar>(p: &mut Parser<'_>, g: &G) -> Result<CompletedMarker, N
 /// A comma before the first pattern, as in `(, a)`, which is reported. Returns whether there is one.
 #[tactic(auto, unfolding(rap_grammar_scripts::specs::Patterns::leading_comma))]
 fn leading_comma(p: &mut Parser<'_>) -> Result<bool, NoMemory>
-    ensures grew { OnOk result (Grew (state p.old) (state p.new) 0) }
     ensures script { IfOk result
-        (λ comma. (depth : ℕ) → Does depth script.leading_comma (of_bool comma) (state p.old) (state p.new)) }
+        (λ comma. DoesAlone script.leading_comma (of_bool comma) (state p.old) (state p.new)) }
 {
     if p.eat(T![,])? {
         p.error("expected pattern")?;
@@ -631,7 +626,6 @@ fn tuple_patterns<G: Grammar>(
     mut is_tuple: bool,
 ) -> Result<bool, NoMemory>
     requires behind { Behind G.valid G.left g.now (state p.old) }
-    ensures grew { OnOk result (Grew (state p.old) (state p.new) 1) }
     ensures script { IfOk result
         (λ parens. Does (G.left g.now) (script.tuple_patterns is_tuple) (of_bool parens) (state p.old) (state p.new)) }
 {
@@ -652,7 +646,6 @@ fn tuple_patterns<G: Grammar>(
 fn tuple_element<G: Grammar>(p: &mut Parser<'_>, g: &G, is_tuple: bool) -> Result<bool, NoMemory>
     requires behind { Behind G.valid G.left g.now (state p.old) }
     requires first { is_pat_top_first (next (state p.old)) ≡ true }
-    ensures took { OnOk result (Took (state p.old) (state p.new) element_room) }
     ensures script { IfOk result (λ tuple.
         Does (G.left g.now) (script.tuple_element is_tuple) (again tuple true) (state p.old) (state p.new)) }
 {
@@ -673,11 +666,11 @@ fn is_rest_pat(p: &Parser<'_>) -> bool
 
 /// A slice by its elements, as `[a, .., b]`.
 #[inline(never)]
-#[tactic(auto, unfolding(rap_grammar_scripts::specs::Patterns::slice_pat))]
+#[tactic(auto, using(rap_grammar_frame::proofs::Done::marker_kept, rap_grammar_facts::proofs::Patterns::level_pat_list), unfolding(rap_grammar_scripts::specs::Patterns::slice_pat))]
 fn slice_pat<G: Grammar>(p: &mut Parser<'_>, g: &G) -> Result<CompletedMarker, NoMemory>
     requires within { Within G.valid G.left g.now (state p.old) }
     requires here { next (state p.old) ≡ L_BRACK }
-    ensures made { IfOk result (Makes SLICE_PAT atom_pattern_room (state p.old) (state p.new)) }
+    ensures last { IfOk result (λ cm. IsLast (state p.new) cm cm.kind.value) }
     ensures script { OnOk result (Does (G.left g.now) script.slice_pat something (state p.old) (state p.new)) }
 {
     let m = p.start()?;
@@ -692,7 +685,6 @@ fn slice_pat<G: Grammar>(p: &mut Parser<'_>, g: &G) -> Result<CompletedMarker, N
 #[tactic(auto, using(rap_grammar_frame::proofs::Loops::turns), unfolding(rap_grammar_scripts::specs::Patterns::pat_list))]
 fn pat_list<G: Grammar>(p: &mut Parser<'_>, g: &G, ket: SyntaxKind) -> Result<(), NoMemory>
     requires behind { Behind G.valid G.left g.now (state p.old) }
-    ensures grew { OnOk result (Grew (state p.old) (state p.new) 8) }
     ensures script { OnOk result (Does (G.left g.now) (script.pat_list ket) something (state p.old) (state p.new)) }
 {
     'patterns: while !p.at(SyntaxKind::EOF) && !p.at(ket) {
@@ -709,7 +701,7 @@ fn pat_list<G: Grammar>(p: &mut Parser<'_>, g: &G, ket: SyntaxKind) -> Result<()
 }
 
 /// An identifier pattern, as `a`, `ref mut a` and, where `with_at`, `a @ 1`.
-#[tactic(auto, unfolding(rap_grammar_scripts::specs::Patterns::ident_pat))]
+#[tactic(auto, using(rap_grammar_facts::proofs::Alone::alone_less_left, rap_grammar_facts::proofs::Alone::alone_marker_kept, rap_grammar_facts::proofs::Patterns::level_binding, rap_grammar_frame::proofs::Done::marker_kept, rap_grammar_facts::proofs::Patterns::level_at_pattern), unfolding(rap_grammar_scripts::specs::Patterns::ident_pat))]
 fn ident_pat<G: Grammar>(
     p: &mut Parser<'_>,
     g: &G,
@@ -717,7 +709,7 @@ fn ident_pat<G: Grammar>(
 ) -> Result<CompletedMarker, NoMemory>
     requires within { Within G.valid G.left g.now (state p.old) }
     requires here { one_of (REF_KW ∷ MUT_KW ∷ IDENT ∷ []) (next (state p.old)) ≡ true }
-    ensures made { IfOk result (Makes IDENT_PAT atom_pattern_room (state p.old) (state p.new)) }
+    ensures last { IfOk result (λ cm. IsLast (state p.new) cm cm.kind.value) }
     ensures script { OnOk result
         (Does (G.left g.now) (script.ident_pat with_at) something (state p.old) (state p.new)) }
 {
@@ -732,8 +724,7 @@ fn ident_pat<G: Grammar>(
 #[inline(never)]
 fn binding(p: &mut Parser<'_>) -> Result<(), NoMemory>
     requires here { one_of (REF_KW ∷ MUT_KW ∷ IDENT ∷ []) (next (state p.old)) ≡ true }
-    ensures took { OnOk result (Took (state p.old) (state p.new) name_room) }
-    ensures script { OnOk result ((depth : ℕ) → Does depth script.binding something (state p.old) (state p.new)) }
+    ensures script { OnOk result (DoesAlone script.binding something (state p.old) (state p.new)) }
 {
     p.eat(T![ref])?;
     p.eat(T![mut])?;
@@ -749,7 +740,6 @@ fn binding(p: &mut Parser<'_>) -> Result<(), NoMemory>
 #[tactic(auto, unfolding(rap_grammar_scripts::specs::Patterns::at_pattern))]
 fn at_pattern<G: Grammar>(p: &mut Parser<'_>, g: &G, with_at: bool) -> Result<(), NoMemory>
     requires within { Within G.valid G.left g.now (state p.old) }
-    ensures grew { OnOk result (Grew (state p.old) (state p.new) 0) }
     ensures script { OnOk result
         (Does (G.left g.now) (script.at_pattern with_at) something (state p.old) (state p.new)) }
 {
@@ -765,7 +755,7 @@ fn at_pattern<G: Grammar>(p: &mut Parser<'_>, g: &G, with_at: bool) -> Result<()
 fn box_pat<G: Grammar>(p: &mut Parser<'_>, g: &G) -> Result<CompletedMarker, NoMemory>
     requires within { Within G.valid G.left g.now (state p.old) }
     requires here { next (state p.old) ≡ BOX_KW }
-    ensures made { IfOk result (Makes BOX_PAT atom_pattern_room (state p.old) (state p.new)) }
+    ensures last { IfOk result (λ cm. IsLast (state p.new) cm cm.kind.value) }
     ensures script { OnOk result (Does (G.left g.now) script.box_pat something (state p.old) (state p.new)) }
 {
     let m = p.start()?;
@@ -780,7 +770,7 @@ fn box_pat<G: Grammar>(p: &mut Parser<'_>, g: &G) -> Result<CompletedMarker, NoM
 fn const_block_pat<G: Grammar>(p: &mut Parser<'_>, g: &G) -> Result<CompletedMarker, NoMemory>
     requires within { Within G.valid G.left g.now (state p.old) }
     requires here { next (state p.old) ≡ CONST_KW }
-    ensures made { IfOk result (Makes CONST_BLOCK_PAT atom_pattern_room (state p.old) (state p.new)) }
+    ensures last { IfOk result (λ cm. IsLast (state p.new) cm cm.kind.value) }
     ensures script { OnOk result (Does (G.left g.now) script.const_block_pat something (state p.old) (state p.new)) }
 {
     let m = p.start()?;

@@ -1,24 +1,34 @@
-use Rattle.std.proofs.Common.{rules, sym, ◌∙◌, inl, inr}
+use Rattle.std.proofs.Common.{false, refl, sym, ◌∙◌, arith}
+use Rattle.rap_events.specs.State.{state}
+use Rattle.rap_grammar_scripts.specs.Attributes.{outer_attrs}
+use Rattle.rap_grammar_scripts.specs.Exec.{Does}
 use Rattle.rap_grammar_scripts.specs.First.{is_outer_attr_first}
+use Rattle.rap_grammar_scripts.specs.Script.{something}
 use Rattle.rap_grammar_scripts.proofs.Ends.{gives}
-use Rattle.rap_grammar_frame.proofs.Steps.{then_by, by_kind, by_rule, turn, clash}
+use Rattle.rap_grammar_frame.proofs.Steps.{then_by, else_by, by_kind, by_rule, turn, last_turn, clash}
+use Rattle.rap_grammar_facts.proofs.Attributes.{took_attr, grew_outer_attrs, took_outer_attrs}
 use Rattle.rap_grammar_attributes.proofs.attributes.outer_attrs.Goals as goal
 
 pub attrs-preserved : goal.attrs-preserved
 attrs-preserved g c =
     let first = by_kind is_outer_attr_first c.is_outer_attr_first.ensures c.current.ensures.kind in
+    let t = took_attr false _ _ c.in_ok-attr.ensures.script in
     record {
-      grew = search rules;
-      began = inr (search rules);
+      left = omega (arith, t.left, c.attrs.invariant.left);
       stays = λ e. absurd (clash (sym first ∙ c.attrs-test.true) (rw (c.attrs.invariant.stays e) e));
       script = turn c.attrs.invariant.script
-          (then_by first c.attrs-test.true (by_rule c.in_ok-attr.ensures.script gives)) (search rules);
+          (then_by first c.attrs-test.true (by_rule c.in_ok-attr.ensures.script gives)) t.left;
     }
 
-pub returns-clause-took : goal.returns-clause-took
-returns-clause-took g c = λ first. elim c.attrs.invariant.began [
-  | inl e ↦
-      let n = by_kind is_outer_attr_first c.is_outer_attr_first.ensures c.current.ensures.kind in
-      absurd (clash first (rw (← e) (sym n ∙ c.attrs-test.false)))
-  | inr t ↦ t
-]
+pub returns : goal.returns
+unfolding outer_attrs
+returns g c =
+    let first = by_kind is_outer_attr_first c.is_outer_attr_first.ensures c.current.ensures.kind in
+    let d : Does (g.G.Grammar.left c.args.g.now) outer_attrs something (state c.args.p.now) (state c.attrs.p) =
+    last_turn c.attrs.invariant.script (else_by first c.attrs-test.false gives) refl in
+    record {
+      grew = grew_outer_attrs _ _ d;
+      took = took_outer_attrs _ _ d;
+      stays = c.attrs.invariant.stays;
+      script = d;
+    }

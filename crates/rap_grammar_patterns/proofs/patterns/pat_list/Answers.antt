@@ -6,7 +6,7 @@ use Rattle.rap_grammar_patterns.proofs.patterns.pat_list.Goals as goal
 
 pub patterns-preserved-then-branch : goal.patterns-preserved-then-branch
 patterns-preserved-then-branch g c = record {
-  grew = search rules;
+  left = search rules;
   script = turn c.patterns.invariant.script
       (else_by c.at.ensures c.patterns-test.true
       (else_by c.at-in-patterns.ensures c.if-not-at.true
@@ -23,7 +23,7 @@ pub patterns-preserved : goal.patterns-preserved
 patterns-preserved g c =
     let t = took_before c.in_ok-pattern.ensures.reads c.in_ok-eat.ensures.state c.if-branch.false (search rules) in
     record {
-      grew = search rules;
+      left = search rules;
       script = turn c.patterns.invariant.script
           (else_by c.at.ensures c.patterns-test.true
           (else_by c.at-in-patterns.ensures c.if-not-at.true
