@@ -48,7 +48,7 @@ impl<F: Fn(&mut Parser<'_>, Rule) -> Result<Answer, NoMemory>> Grammar for Rules
 /// A rule, but for the restrictions and the power of an expression. It goes in registers, where a [`Rule`] goes through
 /// memory: so where a call names its rule, that rule alone is left of the choice between all.
 #[derive(Clone, Copy)]
-enum Brief {
+pub(crate) enum Brief {
     // Brief: written by crates/rap_grammar_scripts/rules up to "end"
     Expr,
     Type { allow_bounds: bool },
@@ -174,7 +174,12 @@ pub fn run(p: &mut Parser<'_>, rule: Rule) -> Result<Answer, NoMemory>
 #[inline(always)]
 #[cycle(run)]
 #[tactic(auto, using(crate::proofs::Depth::more, crate::proofs::Depth::answers_so, rap_grammar_facts::proofs::UseItem::took_use_tree), unfolding(rap_grammar_scripts::specs::Knot::script_of))]
-fn run_brief(p: &mut Parser<'_>, brief: Brief, r: Restrictions, bp: u8) -> Result<Answer, NoMemory>
+pub(crate) fn run_brief(
+    p: &mut Parser<'_>,
+    brief: Brief,
+    r: Restrictions,
+    bp: u8,
+) -> Result<Answer, NoMemory>
     requires { Pre (rule_of brief r bp) (state p.old) }
     ensures { IfOk result (Post (suc (state p.old).left) (rule_of brief r bp) (state p.old) (state p.new)) }
 {

@@ -6,7 +6,7 @@ ghost use Rattle.rap_events.specs.State.{state, next, ReadsAs, NthAt};
 ghost use Rattle.rap_grammar_scripts.specs.First.{is_use_path_start, one_of};
 ghost use Rattle.rap_grammar_frame.specs.Grew.{Within, Behind, Took, Grew, Ended};
 ghost use Rattle.rap_grammar_scripts.specs.Items as script;
-ghost use Rattle.rap_grammar_items_kinds.specs.ItemEnds.{of_item, Handed, Refused, Modified, EndsItem, SkipsItem};
+ghost use Rattle.rap_grammar_items_kinds.specs.ItemEnds.{of_item, EndsOrKeeps, ReportsOrKeeps, EndsReportsOrKeeps, EndsItem, SkipsItem};
 ghost use Rattle.rap_grammar_scripts.specs.Exec.{Does};
 ghost use Rattle.rap_grammar_frame.specs.Room.{item_room, list_room};
 ghost use Rattle.rap_grammar_frame.specs.Rules.{IsItem};
@@ -45,7 +45,7 @@ pub fn opt_item<G: Grammar>(
 ) -> Result<Result<(), Marker>, NoMemory>
     requires within { Within G.valid G.left g.now (state p.old) }
     requires newest { (state p.old).marker ≡ Some m.pos.value }
-    ensures handed { IfOk result (Handed (state p.old) (state p.new)) }
+    ensures handed { IfOk result (EndsOrKeeps (state p.old) (state p.new)) }
     ensures script { IfOk result
         (λ item. Does (G.left g.now) (script.opt_item is_in_extern) (of_item item) (state p.old) (state p.new)) }
 {
@@ -70,7 +70,7 @@ fn opt_modified_item<G: Grammar>(
 ) -> Result<Result<(), Marker>, NoMemory>
     requires within { Within G.valid G.left g.now (state p.old) }
     requires newest { (state p.old).marker ≡ Some m.pos.value }
-    ensures handed { IfOk result (Modified has_visibility (state p.old) (state p.new)) }
+    ensures handed { IfOk result (EndsReportsOrKeeps has_visibility (state p.old) (state p.new)) }
     ensures script { IfOk result
         (λ item. Does (G.left g.now) (script.opt_modified_item has_visibility is_in_extern) (of_item item) (state p.old)
         (state p.new)) }
@@ -94,7 +94,7 @@ fn refuse(
     has_mods: bool,
 ) -> Result<Result<(), Marker>, NoMemory>
     requires newest { (state p.old).marker ≡ Some m.pos.value }
-    ensures refused { IfOk result (Refused has_visibility has_mods (state p.old) (state p.new)) }
+    ensures refused { IfOk result (ReportsOrKeeps has_visibility has_mods (state p.old) (state p.new)) }
     ensures script { IfOk result
         (λ item. (depth : ℕ) → Does depth (script.refuse has_visibility has_mods) (of_item item) (state p.old)
         (state p.new)) }
@@ -121,7 +121,7 @@ fn opt_item_without_modifiers<G: Grammar>(
 ) -> Result<Result<(), Marker>, NoMemory>
     requires within { Within G.valid G.left g.now (state p.old) }
     requires newest { (state p.old).marker ≡ Some m.pos.value }
-    ensures handed { IfOk result (Handed (state p.old) (state p.new)) }
+    ensures handed { IfOk result (EndsOrKeeps (state p.old) (state p.new)) }
     ensures script { IfOk result
         (λ item. Does (G.left g.now) script.opt_item_without_modifiers (of_item item) (state p.old) (state p.new)) }
 {
@@ -163,7 +163,7 @@ fn opt_item_without_modifiers<G: Grammar>(
 fn opt_extern_crate(p: &mut Parser<'_>, m: Marker) -> Result<Result<(), Marker>, NoMemory>
     requires newest { (state p.old).marker ≡ Some m.pos.value }
     requires here { next (state p.old) ≡ EXTERN_KW }
-    ensures handed { IfOk result (Handed (state p.old) (state p.new)) }
+    ensures handed { IfOk result (EndsOrKeeps (state p.old) (state p.new)) }
     ensures script { IfOk result
         (λ item. (depth : ℕ) → Does depth script.opt_extern_crate (of_item item) (state p.old) (state p.new)) }
 {
@@ -191,7 +191,7 @@ fn opt_named_const<G: Grammar>(
     requires within { Within G.valid G.left g.now (state p.old) }
     requires newest { (state p.old).marker ≡ Some m.pos.value }
     requires here { next (state p.old) ≡ CONST_KW }
-    ensures handed { IfOk result (Handed (state p.old) (state p.new)) }
+    ensures handed { IfOk result (EndsOrKeeps (state p.old) (state p.new)) }
     ensures script { IfOk result
         (λ item. Does (G.left g.now) script.opt_named_const (of_item item) (state p.old) (state p.new)) }
 {
@@ -212,7 +212,7 @@ fn opt_const<G: Grammar>(
     requires within { Within G.valid G.left g.now (state p.old) }
     requires newest { (state p.old).marker ≡ Some m.pos.value }
     requires here { next (state p.old) ≡ CONST_KW }
-    ensures handed { IfOk result (Handed (state p.old) (state p.new)) }
+    ensures handed { IfOk result (EndsOrKeeps (state p.old) (state p.new)) }
     ensures script { IfOk result
         (λ item. Does (G.left g.now) script.opt_const (of_item item) (state p.old) (state p.new)) }
 {
@@ -233,7 +233,7 @@ fn opt_static<G: Grammar>(
     requires within { Within G.valid G.left g.now (state p.old) }
     requires newest { (state p.old).marker ≡ Some m.pos.value }
     requires here { next (state p.old) ≡ STATIC_KW }
-    ensures handed { IfOk result (Handed (state p.old) (state p.new)) }
+    ensures handed { IfOk result (EndsOrKeeps (state p.old) (state p.new)) }
     ensures script { IfOk result
         (λ item. Does (G.left g.now) script.opt_static (of_item item) (state p.old) (state p.new)) }
 {
@@ -279,7 +279,7 @@ fn opt_item_by_name<G: Grammar>(
 ) -> Result<Result<(), Marker>, NoMemory>
     requires within { Within G.valid G.left g.now (state p.old) }
     requires newest { (state p.old).marker ≡ Some m.pos.value }
-    ensures handed { IfOk result (Handed (state p.old) (state p.new)) }
+    ensures handed { IfOk result (EndsOrKeeps (state p.old) (state p.new)) }
     ensures script { IfOk result
         (λ item. Does (G.left g.now) script.opt_item_by_name (of_item item) (state p.old) (state p.new)) }
 {
@@ -326,7 +326,7 @@ fn opt_item_with_modifiers<G: Grammar>(
 ) -> Result<Result<(), Marker>, NoMemory>
     requires within { Within G.valid G.left g.now (state p.old) }
     requires newest { (state p.old).marker ≡ Some m.pos.value }
-    ensures handed { IfOk result (Handed (state p.old) (state p.new)) }
+    ensures handed { IfOk result (EndsOrKeeps (state p.old) (state p.new)) }
     ensures script { IfOk result
         (λ item. Does (G.left g.now) (script.opt_item_with_modifiers has_extern) (of_item item) (state p.old)
         (state p.new)) }
@@ -366,7 +366,7 @@ fn opt_extern_block<G: Grammar>(
     requires within { Within G.valid G.left g.now (state p.old) }
     requires newest { (state p.old).marker ≡ Some m.pos.value }
     requires here { next (state p.old) ≡ L_CURLY }
-    ensures handed { IfOk result (Handed (state p.old) (state p.new)) }
+    ensures handed { IfOk result (EndsOrKeeps (state p.old) (state p.new)) }
     ensures script { IfOk result
         (λ item. Does (G.left g.now) (script.opt_extern_block has_extern) (of_item item) (state p.old) (state p.new)) }
 {

@@ -6,8 +6,8 @@ use Rattle.rap_events.specs.Record.{next_kind}
 use Rattle.rap_events.specs.State.{State, next, Completed, Abandoned, Reported, Skipped}
 use Rattle.rap_events.specs.declared.parser.Marker.{Marker}
 use Rattle.rap_grammar_frame.specs.Grew.{Grew, Took, Ended, Dropped}
-use Rattle.rap_grammar_items_kinds.specs.ItemEnds.{Refused, Parted, Modified, Handed, EndsItem, SkipsItem}
-use Rattle.rap_grammar_items_kinds.specs.ItemEnds.{Seen}
+use Rattle.rap_grammar_items_kinds.specs.ItemEnds.{ReportsOrKeeps, EndsOrReports, EndsReportsOrKeeps, EndsOrKeeps, EndsItem, SkipsItem}
+use Rattle.rap_grammar_items_kinds.specs.ItemEnds.{TookIf}
 use Rattle.rap_grammar_frame.specs.Room.{list_room, item_room}
 use Rattle.rap_grammar_frame.proofs.Growth.{gone}
 use Rattle.rap_grammar_frame.proofs.Steps.{clash}
@@ -43,7 +43,7 @@ grew_on x y = record {
 }
 
 -- one part after another: something was there if it was in one of them
-pub seen_both : {s t u : State} {a b r : Bool} → r ≡ a || b → Seen s t a → Seen t u b → Seen s u r
+pub seen_both : {s t u : State} {a b r : Bool} → r ≡ a || b → TookIf s t a → TookIf t u b → TookIf s u r
 seen_both {a = true} e x y = record {
   grew = grew_on x.grew y.grew;
   took = λ h. took_before (x.took refl) y.grew;
@@ -55,19 +55,19 @@ seen_both {a = false} e x y = record {
   stays = λ h. y.stays (sym e ∙ h) ∙ x.stays refl;
 }
 
-pub seen_two : {s t u : State} {a b r : Bool} → Seen s t a → Seen t u b → r ≡ a || b → Seen s u r
+pub seen_two : {s t u : State} {a b r : Bool} → TookIf s t a → TookIf t u b → r ≡ a || b → TookIf s u r
 seen_two x y e = seen_both e x y
 
-pub seen_three : {s t u v : State} {a b c q r : Bool} → Seen s t a → Seen t u b → Seen u v c → q ≡ b || c → r ≡ a || q →
-    Seen s v r
+pub seen_three : {s t u v : State} {a b c q r : Bool} → TookIf s t a → TookIf t u b → TookIf u v c →
+    q ≡ b || c → r ≡ a || q → TookIf s v r
 seen_three x y z e f = seen_both f x (seen_both e y z)
 
-pub seen_five : {s t u v w x : State} {a b c d e o p q r : Bool} → Seen s t a → Seen t u b → Seen u v c → Seen v w d →
-    Seen w x e → o ≡ d || e → p ≡ c || o → q ≡ b || p → r ≡ a || q → Seen s x r
+pub seen_five : {s t u v w x : State} {a b c d e o p q r : Bool} → TookIf s t a → TookIf t u b → TookIf u v c →
+    TookIf v w d → TookIf w x e → o ≡ d || e → p ≡ c || o → q ≡ b || p → r ≡ a || q → TookIf s x r
 seen_five h i j k l e f g m = seen_both m h (seen_both g i (seen_both f j (seen_both e k l)))
 
 -- an item after what was read before it
-pub seen_ended : {s t u : State} {b : Bool} → Seen s t b → Ended t u item_room → Ended s u item_room
+pub seen_ended : {s t u : State} {b : Bool} → TookIf s t b → Ended t u item_room → Ended s u item_room
 seen_ended {s = s} {t = t} {u = u} x y = record {
   input = y.input ∙ x.grew.input;
   left = omega (arith, x.grew.left, y.left);
@@ -77,7 +77,7 @@ seen_ended {s = s} {t = t} {u = u} x y = record {
 }
 
 -- what an item leaves from its modifiers on
-pub parted : {s t u : State} {v b : Bool} → Seen s t b → Ended t u item_room → Parted v s u
+pub parted : {s t u : State} {v b : Bool} → TookIf s t b → Ended t u item_room → EndsOrReports v s u
 parted x y =
     let e = seen_ended x y in
     record {
@@ -90,8 +90,8 @@ parted x y =
     }
 
 -- where no item follows, what stood before it is reported
-pub refused : (u : State) (v : Bool) {s t : State} {b : Bool} (item : Result (Unit {0}) Marker) → Seen s t b →
-    Refused v b t u item → Modified v s u item
+pub refused : (u : State) (v : Bool) {s t : State} {b : Bool} (item : Result (Unit {0}) Marker) → TookIf s t b →
+    ReportsOrKeeps v b t u item → EndsReportsOrKeeps v s u item
 refused u v {s = s} {b = true} (Ok _) x y =
     let t = x.took refl in
     let d = y.1 in
@@ -124,7 +124,7 @@ refused u v (Err m) x y = (y.0.0, (y.1.0 ∙ x.stays y.0.1, y.1.1))
 
 -- an item after a visibility or without one
 pub handed : (u : State) {s t : State} {v : Bool} (item : Result (Unit {0}) Marker) →
-    (v ≡ true → Took s t list_room) → (v ≡ false → t ≡ s) → Modified v t u item → Handed s u item
+    (v ≡ true → Took s t list_room) → (v ≡ false → t ≡ s) → EndsReportsOrKeeps v t u item → EndsOrKeeps s u item
 handed u {s = s} {v = true} (Ok _) x y z =
     let t = x refl in
     record {
@@ -225,12 +225,12 @@ ended_visible {s = s} {v = true} x y z =
 ended_visible {u = u} {v = false} x y z = subst (λ (a : State). Ended a u item_room) (y refl) z
 
 pub handed_kept : (u : State) {s t r : State} {v : Bool} (item : Result (Unit {0}) Marker) →
-    (v ≡ true → Took s t list_room) → (v ≡ false → t ≡ s) → r ≡ t → Modified v r u item → Handed s u item
-handed_kept u {v = v} item x y e z = handed u item x y (subst (λ (a : State). Modified v a u item) e z)
+    (v ≡ true → Took s t list_room) → (v ≡ false → t ≡ s) → r ≡ t → EndsReportsOrKeeps v r u item → EndsOrKeeps s u item
+handed_kept u {v = v} item x y e z = handed u item x y (subst (λ (a : State). EndsReportsOrKeeps v a u item) e z)
 
 pub refused_kept : (u : State) (v : Bool) {s t r : State} {b : Bool} (item : Result (Unit {0}) Marker) →
-    Seen s t b → r ≡ t → Refused v b r u item → Modified v s u item
-refused_kept u v {b = b} item x e y = refused u v item x (subst (λ (a : State). Refused v b a u item) e y)
+    TookIf s t b → r ≡ t → ReportsOrKeeps v b r u item → EndsReportsOrKeeps v s u item
+refused_kept u v {b = b} item x e y = refused u v item x (subst (λ (a : State). ReportsOrKeeps v b a u item) e y)
 
 pub skips_bumped : {b : Bool} {s t : State} {bytes : List ℕ} → Skipped s t bytes → next s ≢ EOF → SkipsItem b s t
 skips_bumped x h =

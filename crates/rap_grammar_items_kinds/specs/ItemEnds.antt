@@ -9,7 +9,7 @@ use Rattle.rap_grammar_frame.specs.Room.{item_room, list_room}
 use Rattle.rap_grammar_scripts.specs.Script.{Outcome, nothing, something}
 
 -- what stands before an item was read: a token at least was taken if there was something, and else nothing was done
-pub record Seen (old new : State) (some : Bool) : Type 0 where
+pub record TookIf (old new : State) (some : Bool) : Type 0 where
   pub grew : Grew old new 0
   pub took : some ≡ true → Took old new list_room
   pub stays : some ≡ false → new ≡ old
@@ -20,18 +20,18 @@ of_item (Ok _) = something
 of_item (Err m) = nothing
 
 -- what an item leaves: the newest marker is gone, or all is as before and the marker is handed back
-abbrev pub Handed : State → State → Result (Unit {0}) Marker → Type 0
-Handed old new (Ok _) = Ended old new item_room
-Handed old new (Err m) = (new ≡ old) × (new.marker ≡ Some m.pos.value)
+abbrev pub EndsOrKeeps : State → State → Result (Unit {0}) Marker → Type 0
+EndsOrKeeps old new (Ok _) = Ended old new item_room
+EndsOrKeeps old new (Err m) = (new ≡ old) × (new.marker ≡ Some m.pos.value)
 
 -- where no item follows: what stood before it is reported, or nothing did
-abbrev pub Refused : Bool → Bool → State → State → Result (Unit {0}) Marker → Type 0
-Refused has_visibility has_mods old new (Ok _) = (has_visibility || has_mods ≡ true) × Dropped old new 2
-Refused has_visibility has_mods old new (Err m) =
+abbrev pub ReportsOrKeeps : Bool → Bool → State → State → Result (Unit {0}) Marker → Type 0
+ReportsOrKeeps has_visibility has_mods old new (Ok _) = (has_visibility || has_mods ≡ true) × Dropped old new 2
+ReportsOrKeeps has_visibility has_mods old new (Err m) =
     ((has_visibility ≡ false) × (has_mods ≡ false)) × ((new ≡ old) × (new.marker ≡ Some m.pos.value))
 
 -- what an item leaves from its modifiers on, by whether a visibility stood before them
-pub record Parted (has_visibility : Bool) (old new : State) : Type 0 where
+pub record EndsOrReports (has_visibility : Bool) (old new : State) : Type 0 where
   pub input : new.input ≡ old.input
   pub left : new.left ≤ old.left
   pub count : new.count + 256 * new.left ≤ old.count + 256 * old.left + 2
@@ -39,9 +39,10 @@ pub record Parted (has_visibility : Bool) (old new : State) : Type 0 where
   pub below : old.below ≡ push new.below new.marker (top old.below)
   pub ended : has_visibility ≡ false → Ended old new item_room
 
-abbrev pub Modified : Bool → State → State → Result (Unit {0}) Marker → Type 0
-Modified has_visibility old new (Ok _) = Parted has_visibility old new
-Modified has_visibility old new (Err m) = (has_visibility ≡ false) × ((new ≡ old) × (new.marker ≡ Some m.pos.value))
+abbrev pub EndsReportsOrKeeps : Bool → State → State → Result (Unit {0}) Marker → Type 0
+EndsReportsOrKeeps has_visibility old new (Ok _) = EndsOrReports has_visibility old new
+EndsReportsOrKeeps has_visibility old new (Err m) =
+    (has_visibility ≡ false) × ((new ≡ old) × (new.marker ≡ Some m.pos.value))
 
 -- What an item or what stands in its place leaves, under a marker that is gone then: a token is taken unless none is
 -- left, or a brace ends the list of items.

@@ -6,7 +6,7 @@ ghost use Rattle.rap_events.specs.State.{state, next, At, NthAt, ReadsAs};
 ghost use Rattle.rap_grammar_frame.specs.Grew.{Within, Took, Grew};
 ghost use Rattle.rap_grammar_scripts.specs.Exec.{Does};
 ghost use Rattle.rap_grammar_scripts.specs.Modifiers as script;
-ghost use Rattle.rap_grammar_items_kinds.specs.ItemEnds.{Seen};
+ghost use Rattle.rap_grammar_items_kinds.specs.ItemEnds.{TookIf};
 ghost use Rattle.rap_grammar_frame.specs.Room.{list_room};
 ghost use Rattle.rap_grammar_scripts.specs.Script.{something, again};
 ghost use Rattle.rap_grammar_scripts.specs.Test.{Test, holds};
@@ -35,7 +35,7 @@ pub fn modifiers<G: Grammar>(
     is_in_extern: bool,
 ) -> Result<ItemModifiers, NoMemory>
     requires within { Within G.valid G.left g.now (state p.old) }
-    ensures seen { IfOk result (λ found. Seen (state p.old) (state p.new) found.has_mods) }
+    ensures seen { IfOk result (λ found. TookIf (state p.old) (state p.new) found.has_mods) }
     ensures script { IfOk result
         (λ found. Does (G.left g.now) (script.modifiers is_in_extern) (again found.has_mods found.has_extern)
         (state p.old) (state p.new)) }
@@ -77,7 +77,7 @@ fn is_impl_restriction(p: &Parser<'_>) -> bool
 #[tactic(auto, unfolding(rap_grammar_scripts::specs::Modifiers::opt_impl_restriction))]
 fn opt_impl_restriction<G: Grammar>(p: &mut Parser<'_>, g: &G) -> Result<bool, NoMemory>
     requires within { Within G.valid G.left g.now (state p.old) }
-    ensures seen { IfOk result (λ found. Seen (state p.old) (state p.new) found) }
+    ensures seen { IfOk result (λ found. TookIf (state p.old) (state p.new) found) }
     ensures script { IfOk result
         (λ found. Does (G.left g.now) script.opt_impl_restriction (of_bool found) (state p.old) (state p.new)) }
 {
@@ -112,7 +112,7 @@ fn impl_restriction<G: Grammar>(p: &mut Parser<'_>, g: &G) -> Result<(), NoMemor
 fn modifier(p: &mut Parser<'_>, found: bool, kind: SyntaxKind) -> Result<bool, NoMemory>
     requires here { found ≡ true → At (state p.old) kind }
     requires some { kind ≢ EOF }
-    ensures seen { IfOk result (λ some. Seen (state p.old) (state p.new) some) }
+    ensures seen { IfOk result (λ some. TookIf (state p.old) (state p.new) some) }
     ensures script { IfOk result
         (λ some. (depth : ℕ) → (t : Test) → found ≡ holds t (state p.old).rest →
         Does depth (script.modifier t kind) (of_bool some) (state p.old) (state p.new)) }
@@ -128,7 +128,7 @@ fn modifier(p: &mut Parser<'_>, found: bool, kind: SyntaxKind) -> Result<bool, N
 #[tactic(auto, unfolding(rap_grammar_scripts::specs::Modifiers::modifier_as))]
 fn modifier_as(p: &mut Parser<'_>, found: bool, kind: SyntaxKind) -> Result<bool, NoMemory>
     requires here { found ≡ true → ReadsAs (state p.old) kind }
-    ensures seen { IfOk result (λ some. Seen (state p.old) (state p.new) some) }
+    ensures seen { IfOk result (λ some. TookIf (state p.old) (state p.new) some) }
     ensures script { IfOk result
         (λ some. (depth : ℕ) → (t : Test) → found ≡ holds t (state p.old).rest →
         Does depth (script.modifier_as t kind) (of_bool some) (state p.old) (state p.new)) }
@@ -193,7 +193,7 @@ fn is_auto_modifier(p: &Parser<'_>) -> bool
 /// The `const` and `async` of a function. Returns whether there was one of them.
 #[tactic(auto, using(crate::proofs::Seeing::seen_three), unfolding(rap_grammar_scripts::specs::Modifiers::qualifiers))]
 fn qualifiers(p: &mut Parser<'_>) -> Result<bool, NoMemory>
-    ensures seen { IfOk result (λ found. Seen (state p.old) (state p.new) found) }
+    ensures seen { IfOk result (λ found. TookIf (state p.old) (state p.new) found) }
     ensures script { IfOk result
         (λ found. (depth : ℕ) → Does depth script.qualifiers (of_bool found) (state p.old) (state p.new)) }
 {
@@ -209,7 +209,7 @@ fn qualifiers(p: &mut Parser<'_>) -> Result<bool, NoMemory>
 /// `unsafe`, and `safe` in an `extern` block. Returns whether there was one.
 #[tactic(auto, using(crate::proofs::Seeing::seen_two), unfolding(rap_grammar_scripts::specs::Modifiers::safety))]
 fn safety(p: &mut Parser<'_>, is_in_extern: bool) -> Result<bool, NoMemory>
-    ensures seen { IfOk result (λ found. Seen (state p.old) (state p.new) found) }
+    ensures seen { IfOk result (λ found. TookIf (state p.old) (state p.new) found) }
     ensures script { IfOk result
         (λ found. (depth : ℕ) → Does depth (script.safety is_in_extern) (of_bool found) (state p.old) (state p.new)) }
 {
@@ -223,7 +223,7 @@ fn safety(p: &mut Parser<'_>, is_in_extern: bool) -> Result<bool, NoMemory>
 /// An ABI, as `extern "C"`, if it comes next. Returns whether it does.
 #[tactic(auto, unfolding(rap_grammar_scripts::specs::Modifiers::opt_abi))]
 fn opt_abi(p: &mut Parser<'_>) -> Result<bool, NoMemory>
-    ensures seen { IfOk result (λ found. Seen (state p.old) (state p.new) found) }
+    ensures seen { IfOk result (λ found. TookIf (state p.old) (state p.new) found) }
     ensures script { IfOk result
         (λ found. (depth : ℕ) → Does depth script.opt_abi (of_bool found) (state p.old) (state p.new)) }
 {
@@ -237,7 +237,7 @@ fn opt_abi(p: &mut Parser<'_>) -> Result<bool, NoMemory>
 /// `auto` before a trait, and `default` before what may be replaced. Returns whether there was one.
 #[tactic(auto, using(crate::proofs::Seeing::seen_two), unfolding(rap_grammar_scripts::specs::Modifiers::auto_or_default))]
 fn auto_or_default(p: &mut Parser<'_>) -> Result<bool, NoMemory>
-    ensures seen { IfOk result (λ found. Seen (state p.old) (state p.new) found) }
+    ensures seen { IfOk result (λ found. TookIf (state p.old) (state p.new) found) }
     ensures script { IfOk result
         (λ found. (depth : ℕ) → Does depth script.auto_or_default (of_bool found) (state p.old) (state p.new)) }
 {
@@ -280,7 +280,7 @@ fn is_default_async(p: &Parser<'_>) -> bool
 /// `default` with the modifier after it, if it comes next. Returns whether it does.
 #[tactic(auto, unfolding(rap_grammar_scripts::specs::Modifiers::opt_default))]
 fn opt_default(p: &mut Parser<'_>) -> Result<bool, NoMemory>
-    ensures seen { IfOk result (λ found. Seen (state p.old) (state p.new) found) }
+    ensures seen { IfOk result (λ found. TookIf (state p.old) (state p.new) found) }
     ensures script { IfOk result
         (λ found. (depth : ℕ) → Does depth script.opt_default (of_bool found) (state p.old) (state p.new)) }
 {

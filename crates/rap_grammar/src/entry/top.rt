@@ -9,7 +9,7 @@ ghost use Rattle.rap_grammar.specs.Top.{IsTreeOver, IsTopOf, IsRootOf};
 ghost use Rattle.rap_base.specs.Limits.{max_tokens};
 
 use super::{close_root, close_top, run_alone};
-use crate::knot::{all_rules, run};
+use crate::knot::{Brief, all_rules, run_brief};
 use rap_base::no_memory::NoMemory;
 use rap_base::syntax_kind::SyntaxKind;
 use rap_events::input::Input;
@@ -73,7 +73,7 @@ pub fn expr(alloc: Global, input: &Input) -> Result<Output, NoMemory>
         forbid_structs: false,
         prefer_stmt: false,
     };
-    run(&mut p, Rule::ExprBp { r, bp: 1 })?;
+    run_brief(&mut p, Brief::Expr, r, 1)?;
     let output = close_top(alloc, p, m)?;
     Ok(output)
 }

@@ -22,6 +22,6 @@ answered_grew old new stmt bp (Some x) h = let t = h.0.took in record {
 
 pub returns-clause-script : goal.returns-clause-script
 returns-clause-script c =
-    let r = expr_runs _ c.in_ok-run.ensures.1 in
-    let w = answered_grew (state c.start.new.self) (state c.run.new.p) _ _ c.in_ok-run.field-0 c.in_ok-run.ensures.0 in
+    let r = expr_runs _ c.in_ok-run_brief.ensures.1 in
+    let w = answered_grew (state c.start.new.self) (state c.run_brief.new.p) _ _ c.in_ok-run_brief.field-0 c.in_ok-run_brief.ensures.0 in
     search rules
