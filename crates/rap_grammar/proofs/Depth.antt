@@ -1,12 +1,15 @@
 -- What a rule does with so many rules inside one another, it does where there may be more.
-use Rattle.std.proofs.Common.{ℕ, suc, ◌<◌, ◌≤◌, Option, Some, None, Result, Ok, Err}
+use Rattle.std.proofs.Common.{◌≡◌, ℕ, suc, ◌<◌, ◌≤◌, true, Option, Some, None, Result, Ok, Err}
 use Rattle.std.specs.Prelude.{IfOk}
-use Rattle.rap_events.specs.State.{State}
+use Rattle.rap_events.specs.State.{State, state, next}
 use Rattle.rap_events.specs.declared.parser.CompletedMarker.{CompletedMarker}
+use Rattle.rap_events.specs.declared.parser.Parser.{Parser}
 use Rattle.rap_grammar_scripts.proofs.Ends.{answers, answers_more, gives, obeys}
 use Rattle.rap_grammar_scripts.proofs.Exec.{runs, does_follow}
 use Rattle.rap_grammar_scripts.specs.Exec.{Ends, Answers, Does, Obeys}
 use Rattle.rap_grammar_scripts.specs.Expressions.{expr_bp}
+use Rattle.rap_grammar_scripts.specs.First.{is_generic_arg_first}
+use Rattle.rap_grammar_scripts.specs.GenericArgs.{generic_arg}
 use Rattle.rap_grammar_scripts.specs.Knot.{script_of}
 use Rattle.rap_grammar_scripts.specs.declared.arguments.Restrictions.{Restrictions}
 use Rattle.rap_grammar_scripts.specs.declared.rule.Rule.{Rule}
@@ -19,6 +22,7 @@ use Rattle.rap_grammar.specs.Part.{Goes, part_of}
 use Rattle.rap_grammar_scripts.specs.declared.arguments.BlockLike.{BlockLike}
 use Rattle.rap_grammar_scripts.specs.declared.arguments.BlockLike.TheVariants as like
 use Rattle.rap_grammar_frame.specs.Rules.{Answered, Post}
+use Rattle.rap_grammar_facts.proofs.Promised.{took_generic_arg}
 
 -- what the two clauses of an expression say of its rule, where its result is returned as it is
 pub expr_post : {E : Type 0} {n m : ℕ} → n < m → (r : Restrictions) (bp : ℕ) (old new : State) (res : Result (Option (CompletedMarker × BlockLike)) E) →
@@ -26,6 +30,12 @@ pub expr_post : {E : Type 0} {n m : ℕ} → n < m → (r : Restrictions) (bp : 
 unfolding script_of
 expr_post l r bp old new (Ok e) answered made = (answered, answers (knot.ExprBp r bp) l made)
 expr_post l r bp old new (Err x) answered made = made
+
+-- what the knot promises of a generic argument follows from its script
+pub generic_arg_post : {n m : ℕ} → n < m → (p q : Parser) → is_generic_arg_first (next (state p)) ≡ true →
+    Does n generic_arg something (state p) (state q) → Post m knot.GenericArg (state p) (state q) None
+unfolding script_of
+generic_arg_post l p q first made = (took_generic_arg p q made first, answers knot.GenericArg l made)
 
 pub more : (n m : ℕ) → n ≤ m → (c : Rule) (s t : State) (e : Option (CompletedMarker × BlockLike)) → Post n c s t e →
     Post m c s t e

@@ -7,7 +7,6 @@ ghost use Rattle.rap_events.specs.Machine.{floor, push};
 ghost use Rattle.rap_events.specs.State.{state, next};
 ghost use Rattle.rap_base.specs.TokenKind.{EOF, ERROR};
 ghost use Rattle.rap_events.specs.Composite.{is_at};
-ghost use Rattle.rap_grammar_frame.specs.Grew.{Grew};
 ghost use Rattle.rap_grammar_frame.specs.Rules.{Pre, Parses};
 ghost use Rattle.rap_grammar_scripts.specs.Entry as script;
 ghost use Rattle.rap_grammar_scripts.specs.Modules as modules_script;
@@ -100,7 +99,6 @@ fn is_at_end(p: &Parser<'_>) -> bool
 #[tactic(auto, using(rap_grammar_frame::proofs::Loops::turns), unfolding(rap_grammar_scripts::specs::Entry::macro_stmts))]
 fn macro_stmts(p: &mut Parser<'_>, g: &AllRules) -> Result<(), NoMemory>
     requires { (state p.old).left ≤ g.now.left }
-    ensures grew { OnOk result (Grew (state p.old) (state p.new) 0) }
     ensures rest { OnOk result ((state p.new).rest ≡ []) }
     ensures script { OnOk result (Does (suc g.now.left) script.macro_stmts something (state p.old) (state p.new)) }
 {
@@ -115,7 +113,6 @@ fn macro_stmts(p: &mut Parser<'_>, g: &AllRules) -> Result<(), NoMemory>
 #[tactic(auto, using(rap_grammar_frame::proofs::Loops::turns), unfolding(rap_grammar_scripts::specs::Modules::items))]
 fn items(p: &mut Parser<'_>, g: &AllRules) -> Result<(), NoMemory>
     requires { (state p.old).left ≤ g.now.left }
-    ensures grew { OnOk result (Grew (state p.old) (state p.new) 0) }
     ensures rest { OnOk result ((state p.new).rest ≡ []) }
     ensures script { OnOk result
         (Does (suc g.now.left) (modules_script.items false) something (state p.old) (state p.new)) }
@@ -135,7 +132,6 @@ fn items(p: &mut Parser<'_>, g: &AllRules) -> Result<(), NoMemory>
 #[tactic(auto, unfolding(rap_grammar_scripts::specs::Modules::mod_contents))]
 fn macro_items(p: &mut Parser<'_>, g: &AllRules) -> Result<(), NoMemory>
     requires { (state p.old).left ≤ g.now.left }
-    ensures grew { OnOk result (Grew (state p.old) (state p.new) 0) }
     ensures rest { OnOk result ((state p.new).rest ≡ []) }
     ensures script { OnOk result
         (Does (suc g.now.left) (modules_script.mod_contents false) something (state p.old) (state p.new)) }
@@ -149,7 +145,6 @@ fn macro_items(p: &mut Parser<'_>, g: &AllRules) -> Result<(), NoMemory>
 #[tactic(auto, unfolding(rap_grammar_scripts::specs::Entry::source_file))]
 fn source_file(p: &mut Parser<'_>, g: &AllRules) -> Result<(), NoMemory>
     requires { (state p.old).left ≤ g.now.left }
-    ensures grew { OnOk result (Grew (state p.old) (state p.new) 0) }
     ensures rest { OnOk result ((state p.new).rest ≡ []) }
     ensures script { OnOk result (Does (suc g.now.left) script.source_file something (state p.old) (state p.new)) }
 {

@@ -173,7 +173,7 @@ pub fn run(p: &mut Parser<'_>, rule: Rule) -> Result<Answer, NoMemory>
 /// halves what a level of nesting keeps on the stack.
 #[inline(always)]
 #[cycle(run)]
-#[tactic(auto, using(crate::proofs::Depth::more, crate::proofs::Depth::answers_so, rap_grammar_facts::proofs::UseItem::took_use_tree), unfolding(rap_grammar_scripts::specs::Knot::script_of))]
+#[tactic(auto, using(crate::proofs::Depth::more, crate::proofs::Depth::answers_so, rap_grammar_facts::proofs::Types::took_path_type_bounds, rap_grammar_facts::proofs::UseItem::took_use_tree, rap_grammar_facts::proofs::Promised::facts), unfolding(rap_grammar_scripts::specs::Knot::script_of))]
 pub(crate) fn run_brief(
     p: &mut Parser<'_>,
     brief: Brief,

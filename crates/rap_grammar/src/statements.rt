@@ -1,14 +1,11 @@
 //! Statements.
 //! In the Rust crate: `grammar/expressions.rs`.
-ghost use Rattle.std.specs.Prelude.{ℕ, ◌≡◌, ◌≢◌, ◌<◌, ◌≤◌, IfOk, OnOk, Some, None, true};
-ghost use Rattle.rap_base.specs.TokenKind.{EOF};
-ghost use Rattle.rap_events.specs.State.{state, next, IsLast};
-ghost use Rattle.rap_grammar_scripts.specs.Blocks.{starts_let};
+ghost use Rattle.std.specs.Prelude.{◌≡◌, OnOk, Some};
+ghost use Rattle.rap_events.specs.State.{state, IsLast};
 ghost use Rattle.rap_grammar_scripts.specs.Words.{of_like, is_block};
-ghost use Rattle.rap_grammar_frame.specs.Grew.{Within, Grew, Gone, Spent};
+ghost use Rattle.rap_grammar_frame.specs.Grew.{Within};
+ghost use Rattle.rap_grammar_facts.specs.Alone.{DoesAlone};
 ghost use Rattle.rap_grammar_scripts.specs.Exec.{Does};
-ghost use Rattle.rap_grammar_frame.specs.Room.{expr_stmt_room, recovery_events};
-ghost use Rattle.rap_grammar_frame.specs.Rules.{IsStatement};
 ghost use Rattle.rap_grammar_scripts.specs.Script.{something};
 ghost use Rattle.rap_grammar_scripts.specs.Statements as script;
 ghost use Rattle.rap_grammar_scripts.specs.Statements.{ends_block};
@@ -27,10 +24,9 @@ use rap_grammar_items::items::opt_item;
 use rap_grammar_scripts::arguments::{BlockLike, Restrictions, Semicolon};
 
 /// A statement: `;`, a `let`, an item, or an expression, which at the end of its block is its value.
-#[tactic(auto, unfolding(rap_grammar_scripts::specs::Statements::stmt))]
+#[tactic(auto, using(rap_grammar_facts::proofs::Items::fewer_opt_item), unfolding(rap_grammar_scripts::specs::Statements::stmt))]
 pub fn stmt<G: Grammar>(p: &mut Parser<'_>, g: &G, semicolon: Semicolon) -> Result<(), NoMemory>
     requires within { Within G.valid G.left g.now (state p.old) }
-    ensures statement { OnOk result (IsStatement (state p.old) (state p.new)) }
     ensures script { OnOk result (Does (G.left g.now) (script.stmt semicolon) something (state p.old) (state p.new)) }
 {
     if p.eat(T![;])? {
@@ -62,8 +58,6 @@ fn expr_as_stmt<G: Grammar>(
 ) -> Result<(), NoMemory>
     requires within { Within G.valid G.left g.now (state p.old) }
     requires newest { (state p.old).marker ≡ Some m.pos.value }
-    ensures gone { OnOk result (Gone (state p.old) (state p.new) 4) }
-    ensures spent { OnOk result (next (state p.old) ≢ EOF → Spent (state p.old) (state p.new) expr_stmt_room) }
     ensures script { OnOk result
         (Does (G.left g.now) (script.expr_as_stmt semicolon) something (state p.old) (state p.new)) }
 {
@@ -84,7 +78,7 @@ fn expr_as_stmt<G: Grammar>(
 }
 
 /// The end of an expression as a statement: a node around it and its semicolon, unless it is the value of its block.
-#[tactic(auto, unfolding(rap_grammar_scripts::specs::Statements::expr_stmt_end))]
+#[tactic(auto, using(rap_grammar_facts::proofs::Alone::alone_marker_kept, rap_grammar_facts::proofs::Statements::level_expr_semicolon), unfolding(rap_grammar_scripts::specs::Statements::expr_stmt_end))]
 fn expr_stmt_end(
     p: &mut Parser<'_>,
     cm: CompletedMarker,
@@ -92,10 +86,9 @@ fn expr_stmt_end(
     semicolon: Semicolon,
 ) -> Result<(), NoMemory>
     requires last { IsLast (state p.old) cm cm.kind.value }
-    ensures grew { OnOk result (Grew (state p.old) (state p.new) recovery_events) }
     ensures script { OnOk result
-        ((depth : ℕ) → Does depth (script.expr_stmt_end semicolon (is_block (of_like block_like))) something
-        (state p.old) (state p.new)) }
+        (DoesAlone (script.expr_stmt_end semicolon (is_block (of_like block_like))) something (state p.old)
+        (state p.new)) }
 {
     if ends_block(p, semicolon) {
         return Ok(());
@@ -123,10 +116,9 @@ fn expr_semicolon(
     semicolon: Semicolon,
     block_like: BlockLike,
 ) -> Result<(), NoMemory>
-    ensures grew { OnOk result (Grew (state p.old) (state p.new) 1) }
     ensures script { OnOk result
-        ((depth : ℕ) → Does depth (script.expr_semicolon semicolon (is_block (of_like block_like))) something
-        (state p.old) (state p.new)) }
+        (DoesAlone (script.expr_semicolon semicolon (is_block (of_like block_like))) something (state p.old)
+        (state p.new)) }
 {
     match semicolon {
         Semicolon::Required => {

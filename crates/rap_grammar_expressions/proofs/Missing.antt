@@ -1,19 +1,28 @@
--- Where no expression was read, and what was taken there.
-use Rattle.std.proofs.Common.{◌≡◌, ◌≢◌, ℕ, ◌<◌, ◌≤◌, List, Bool, true, false, ◌==◌, ◌||◌, Option, Some, None, refl, sym, ap, ◌∙◌, arith}
+-- An expression after its attributes, and what was taken where there is none.
+use Rattle.std.proofs.Common.{◌≡◌, ◌≢◌, ℕ, suc, Bool, true, false, not, ◌==◌, ◌||◌, List, Option, Some, None, length, refl, sym, ap, ◌∙◌, arith}
 use Rattle.std.proofs.lemmas.Bool.Decides.{nat_tests}
 use Rattle.rap_base.specs.TokenKind.{EOF, L_PAREN, L_CURLY, R_CURLY}
 use Rattle.rap_base.specs.TokenSet.{member}
 use Rattle.rap_base.specs.declared.token_set.TokenSet.{TokenSet}
 use Rattle.rap_events.specs.Machine.{push, top}
-use Rattle.rap_events.specs.Record.{next_kind}
-use Rattle.rap_events.specs.State.{State, next, Opened, Abandoned, Recovered, but_last}
+use Rattle.rap_events.specs.State.{State, state, next, Opened, Abandoned, Recovered, but_last}
 use Rattle.rap_events.specs.declared.parser.CompletedMarker.{CompletedMarker}
-use Rattle.rap_grammar_scripts.specs.First.{is_expr_first, is_outer_attr_first}
-use Rattle.rap_grammar_frame.specs.Grew.{Grew, Took, Spent, Dropped}
+use Rattle.rap_events.specs.declared.parser.Parser.{Parser}
+use Rattle.rap_grammar_scripts.specs.Exec.{Does, Obeys}
+use Rattle.rap_grammar_scripts.specs.Expressions.{expr_bp}
+use Rattle.rap_grammar_scripts.specs.First.{is_expr_first}
+use Rattle.rap_grammar_scripts.specs.Knot.{script_of}
 use Rattle.rap_grammar_scripts.specs.Recovery.{is_expr_recovery, stops_expr}
-use Rattle.rap_grammar_frame.specs.Room.{expression_room, marked_room, list_room}
-use Rattle.rap_grammar_frame.specs.Rules.{Answered, AnsweredFrom}
+use Rattle.rap_grammar_scripts.specs.Script.{Outcome, nothing}
+use Rattle.rap_grammar_scripts.specs.Words.{of_expr}
 use Rattle.rap_grammar_scripts.specs.declared.arguments.BlockLike.{BlockLike}
+use Rattle.rap_grammar_scripts.specs.declared.arguments.Restrictions.{Restrictions}
+use Rattle.rap_grammar_scripts.specs.declared.rule.Rule.TheVariants as knot
+use Rattle.rap_grammar_scripts.proofs.Firsts.{rule_rests}
+use Rattle.rap_grammar_frame.specs.Grew.{Grew, Spent}
+use Rattle.rap_grammar_frame.specs.Room.{marked_room}
+use Rattle.rap_grammar_frame.specs.Rules.{Answered, AnsweredFrom, Missed}
+use Rattle.rap_grammar_frame.proofs.Done.{rule_took}
 use Rattle.rap_grammar_frame.proofs.Steps.{clash}
 
 abbrev keeps : ℕ → Bool
@@ -30,16 +39,6 @@ other k b p s = grind (arith, nat_tests)
 
 not_kept : (k : ℕ) → is_expr_first k ≡ false → stops_expr k ≡ false → keeps k ≡ false
 not_kept k f s = other k (no_brace k f) (no_paren k f) s
-
-only_end : (k : ℕ) → stops_expr k ≡ true → keeps k ≡ false → k ≡ EOF
-only_end k s n = grind (arith, nat_tests)
-
-no_attr : (k : ℕ) → stops_expr k ≡ true → is_outer_attr_first k ≡ false
-no_attr k s = grind (arith, nat_tests)
-
--- no expression begins where the search for one ends
-pub begins_none : (k : ℕ) → is_expr_first k ≡ true → stops_expr k ≡ false
-begins_none k f = grind (arith, nat_tests)
 
 no_end : (k : ℕ) → stops_expr k ≡ false → k ≢ EOF
 no_end k s e = clash (rw e refl) s
@@ -60,100 +59,59 @@ spent_missing {s = s} {kept = false} first f r a h =
       count = omega (arith, l, d.count, a.recorded.left, a.recorded.count);
     }
 
--- and takes nothing where that ends it
-pub stays_missing : {s t u : State} {bytes : List ℕ} {set : TokenSet} {kept : Bool} →
-    ((k : ℕ) → member set k ≡ is_expr_recovery k) → (next s ≡ EOF → s.left ≡ 0) → Recovered s t bytes set kept →
-    Abandoned t u →
-    stops_expr (next s) ≡ true → u.left ≡ s.left
-stays_missing {kept = true} first end r a h = a.recorded.left ∙ (r.reported refl).left
-stays_missing {s = s} {kept = false} first end r a h =
-    let k : keeps (next s) ≡ false = rw (← (first (next s))) (sym r.decided) in
-    let none = end (only_end (next s) h k) in
-    omega (arith, none, r.left, a.recorded.left)
-
-by_test : {A : Type 0} (b : Bool) → (b ≡ true → A) → (b ≡ false → A) → A
-by_test true f h = f refl
-by_test false f h = h refl
-
--- the attributes were taken, or else what stands where the expression is missing
-took_missing : {s0 s1 s2 t : State} {m : ℕ} → Opened s0 s1 m → Grew s1 s2 0 →
-    (is_outer_attr_first (next s1) ≡ true → Took s1 s2 list_room) → (is_outer_attr_first (next s1) ≡ false → s2 ≡ s1) →
-    Dropped s2 t 5 → (stops_expr (next s2) ≡ false → Spent s2 t marked_room) →
-    stops_expr (next s0) ≡ false → Took s0 t expression_room
-took_missing {s0 = s0} {s1 = s1} {s2 = s2} {t = t} p a took stays d spent h =
-    let below : push s0.below s0.marker s0.forest ≡ push t.below t.marker (top s2.below) =
-    sym p.below ∙ sym a.below ∙ d.below in
-    by_test (is_outer_attr_first (next s1))
-    (λ e.
-    let l = took e in
+-- what a rule takes where no expression was read, as is computed of its script
+missed : {n : ℕ} {v : Outcome} (r : Restrictions) (bp : ℕ) (p q : Parser) →
+    Does n (expr_bp r bp) v (state p) (state q) → Missed (state p) (state q)
+unfolding state expr_bp script_of
+missed {n = n} {v = v} r bp p q d =
+    let obeys : Obeys (suc n) (knot.ExprBp r bp) v (state p) (state q) = record { run = d.run } in
     record {
-      input = d.input ∙ a.input ∙ p.recorded.input;
-      left = omega (arith, p.recorded.left, l.left, d.left);
-      count = omega (arith, p.recorded.left, p.recorded.count, l.left, l.count, d.left, d.count);
-      messages = omega (arith, p.recorded.messages, a.messages, d.messages);
-      marker = cc;
-      below = cc;
-    })
-    (λ e.
-    let n : next s2 ≡ next s0 = ap next (stays e) ∙ ap next_kind p.recorded.rest in
-    let l = spent (ap stops_expr n ∙ h) in
-    record {
-      input = d.input ∙ a.input ∙ p.recorded.input;
-      left = omega (arith, p.recorded.left, a.left, l.left);
-      count = omega (arith, p.recorded.left, p.recorded.count, a.left, a.count, l.left, l.count);
-      messages = omega (arith, p.recorded.messages, a.messages, d.messages);
-      marker = cc;
-      below = cc;
-    })
-
--- no attribute stands where the search ends, and nothing was taken there
-nothing_taken : (t : State) {s0 s1 s2 : State} {m : ℕ} → Opened s0 s1 m →
-    (is_outer_attr_first (next s1) ≡ false → s2 ≡ s1) →
-    (stops_expr (next s2) ≡ true → t.left ≡ s2.left) → stops_expr (next s0) ≡ true → t.left ≡ s0.left
-nothing_taken t {s0 = s0} {s1 = s1} p stays same h =
-    let n : next s1 ≡ next s0 = ap next_kind p.recorded.rest in
-    let h1 : stops_expr (next s1) ≡ true = ap stops_expr n ∙ h in
-    let e = stays (no_attr (next s1) h1) in
-    same (ap (λ s. stops_expr (next s)) e ∙ h1) ∙ (ap (λ s. s.left) e ∙ p.recorded.left)
+      took = λ h.
+          let t = rule_took {n = suc n} {v = v} (knot.ExprBp r bp) p q obeys (ap not h) in
+          record {
+            input = t.input;
+            left = t.left;
+            count = omega (arith, t.count);
+            messages = t.messages;
+            marker = t.marker;
+            below = t.below;
+          };
+      stays = λ h. ap length (rule_rests {n = suc n} (knot.ExprBp r bp) {v = v} p q obeys h);
+    }
 
 -- an expression after its attributes
-pub answered : (stmt : Bool) (bp : ℕ) (o : Option (CompletedMarker × BlockLike)) {s0 s1 s2 t : State} {m : ℕ} →
-    Opened s0 s1 m → Grew s1 s2 0 →
-    (is_outer_attr_first (next s1) ≡ true → Took s1 s2 list_room) → (is_outer_attr_first (next s1) ≡ false → s2 ≡ s1) →
-    AnsweredFrom s2 t stmt bp o → (o ≡ None → stops_expr (next s2) ≡ false → Spent s2 t marked_room) →
-    (o ≡ None → stops_expr (next s2) ≡ true → t.left ≡ s2.left) → Answered s0 t stmt bp o
-answered stmt bp (Some e) {s0 = s0} {t = t} p a took stays d spent same =
-    let c = d.0 in
-    let below : push s0.below s0.marker s0.forest ≡ push t.below t.marker (but_last t.forest) =
-    sym p.below ∙ sym a.below ∙ c.below in (
+pub answered : {n : ℕ} (r : Restrictions) (bp : ℕ) (o : Option (CompletedMarker × BlockLike)) (p q : Parser)
+    {s t : State} {m : ℕ} → Does n (expr_bp r bp) (of_expr o) (state p) (state q) → Opened (state p) s m →
+    Grew s t 0 → AnsweredFrom t (state q) r.prefer_stmt bp o → Answered (state p) (state q) r.prefer_stmt bp o
+answered r bp (Some e) p q d b a c =
+    let x = c.0 in
+    let below : push (state p).below (state p).marker (state p).forest ≡
+    push (state q).below (state q).marker (but_last (state q).forest) = sym b.below ∙ sym a.below ∙ x.below in (
       record {
         took = record {
-          input = c.input ∙ a.input ∙ p.recorded.input;
-          left = omega (arith, p.recorded.left, a.left, c.left);
-          count = omega (arith, p.recorded.left, p.recorded.count, a.left, a.count, c.count);
-          messages = omega (arith, p.recorded.messages, a.messages, c.messages);
+          input = x.input ∙ a.input ∙ b.recorded.input;
+          left = omega (arith, b.recorded.left, a.left, x.left);
+          count = omega (arith, b.recorded.left, b.recorded.count, a.left, a.count, x.count);
+          messages = omega (arith, b.recorded.messages, a.messages, x.messages);
           marker = cc;
           below = cc;
         };
-        last = c.last;
+        last = x.last;
         one = cc;
       },
-      d.1,
+      c.1,
     )
-answered stmt bp None {s0 = s0} {s2 = s2} {t = t} p a took stays d spent same =
-    let below : push s0.below s0.marker s0.forest ≡ push t.below t.marker (top s2.below) =
-    sym p.below ∙ sym a.below ∙ d.below in (
+answered {n = n} r bp None p q {t = t} d b a c =
+    let below : push (state p).below (state p).marker (state p).forest ≡
+    push (state q).below (state q).marker (top t.below) = sym b.below ∙ sym a.below ∙ c.below in (
       record {
-        input = d.input ∙ a.input ∙ p.recorded.input;
-        left = omega (arith, p.recorded.left, a.left, d.left);
-        count = omega (arith, p.recorded.left, p.recorded.count, a.left, a.count, d.left, d.count);
-        messages = omega (arith, p.recorded.messages, a.messages, d.messages);
+        input = c.input ∙ a.input ∙ b.recorded.input;
+        left = omega (arith, b.recorded.left, a.left, c.left);
+        count = omega (arith, b.recorded.left, b.recorded.count, a.left, a.count, c.left, c.count);
+        messages = omega (arith, b.recorded.messages, a.messages, c.messages);
         marker = cc;
         below = cc;
       },
-      omega (arith, p.recorded.messages, a.messages, d.messages),
-      record {
-        took = took_missing p a took stays d (spent refl);
-        stays = nothing_taken t p stays (same refl);
-      },
+      omega (arith, b.recorded.messages, a.messages, c.messages),
+      missed {n = n} {v = nothing} r bp p q d,
     )

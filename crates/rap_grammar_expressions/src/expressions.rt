@@ -8,8 +8,9 @@ ghost use Rattle.rap_grammar_scripts.specs.First.{is_expr_first};
 ghost use Rattle.rap_grammar_frame.specs.Grew.{Within, Dropped, Spent};
 ghost use Rattle.rap_grammar_scripts.specs.Exec.{Does};
 ghost use Rattle.rap_grammar_scripts.specs.Recovery.{stops_expr};
-ghost use Rattle.rap_grammar_frame.specs.Room.{operand_room, marked_room, dropped_events};
-ghost use Rattle.rap_grammar_frame.specs.Rules.{Answered, AnsweredFrom, Operand};
+ghost use Rattle.rap_grammar_facts.specs.Nodes.{AtomIf};
+ghost use Rattle.rap_grammar_frame.specs.Room.{marked_room, dropped_events};
+ghost use Rattle.rap_grammar_frame.specs.Rules.{Answered, AnsweredFrom};
 ghost use Rattle.rap_grammar_scripts.specs.Script.{nothing};
 
 use crate::expressions::atom::atom_expr;
@@ -30,7 +31,7 @@ mod operators;
 
 /// An expression of at least the power `bp`, after its attributes.
 #[inline(never)]
-#[tactic(auto, using(crate::proofs::Missing::answered), unfolding(rap_grammar_scripts::specs::Expressions::expr_bp))]
+#[tactic(auto, unfolding(rap_grammar_scripts::specs::Expressions::expr_bp))]
 pub fn expr_bp<G: Grammar>(
     p: &mut Parser<'_>,
     g: &G,
@@ -51,7 +52,7 @@ pub fn expr_bp<G: Grammar>(
 
 /// An expression of at least the power `bp`, from the newest marker on.
 #[inline(always)]
-#[tactic(auto, using(crate::proofs::Missing::begins_none), unfolding(rap_grammar_scripts::specs::Expressions::expr_from))]
+#[tactic(auto, using(crate::proofs::Atoms::taken, rap_grammar_facts::proofs::Expressions::reported_lhs, rap_grammar_facts::proofs::Operators::grew_climb), unfolding(rap_grammar_scripts::specs::Expressions::expr_from))]
 pub fn expr_from<G: Grammar>(
     p: &mut Parser<'_>,
     g: &G,
@@ -65,8 +66,6 @@ pub fn expr_from<G: Grammar>(
     ensures answered { IfOk result (AnsweredFrom (state p.old) (state p.new) r.prefer_stmt bp) }
     ensures spent { IfOk result
         (λ e. e ≡ None → stops_expr (next (state p.old)) ≡ false → Spent (state p.old) (state p.new) marked_room) }
-    ensures stays { IfOk result
-        (λ e. e ≡ None → stops_expr (next (state p.old)) ≡ true → (state p.new).left ≡ (state p.old).left) }
     ensures script { IfOk result
         (λ e. Does (G.left g.now) (script.expr_from r bp) (of_expr e) (state p.old) (state p.new)) }
 {
@@ -95,7 +94,6 @@ fn missing_expr(p: &mut Parser<'_>, m: Marker) -> Result<(), NoMemory>
     requires missing { is_expr_first (next (state p.old)) ≡ false }
     ensures dropped { OnOk result (Dropped (state p.old) (state p.new) dropped_events) }
     ensures spent { OnOk result (stops_expr (next (state p.old)) ≡ false → Spent (state p.old) (state p.new) marked_room) }
-    ensures stays { OnOk result (stops_expr (next (state p.old)) ≡ true → (state p.new).left ≡ (state p.old).left) }
     ensures script { OnOk result ((depth : ℕ) → Does depth script.missing_expr nothing (state p.old) (state p.new)) }
 {
     p.err_recover("expected expression", expr_recovery_set())?;
@@ -105,7 +103,7 @@ fn missing_expr(p: &mut Parser<'_>, m: Marker) -> Result<(), NoMemory>
 
 /// An expression without an operator between two expressions, as `-a` and `a.b()`.
 #[inline(always)]
-#[tactic(auto, unfolding(rap_grammar_scripts::specs::Expressions::lhs))]
+#[tactic(auto, using(rap_grammar_frame::proofs::Done::less_left), unfolding(rap_grammar_scripts::specs::Expressions::lhs))]
 fn lhs<G: Grammar>(
     p: &mut Parser<'_>,
     g: &G,
@@ -113,7 +111,7 @@ fn lhs<G: Grammar>(
 ) -> Result<Option<(CompletedMarker, BlockLike)>, NoMemory>
     requires within { Within G.valid G.left g.now (state p.old) }
     requires more { next (state p.old) ≢ EOF }
-    ensures operand { IfOk result (Operand operand_room (state p.old) (state p.new)) }
+    ensures atom { IfOk result (AtomIf (state p.old) (state p.new)) }
     ensures script { IfOk result (λ e. Does (G.left g.now) (script.lhs r) (of_expr e) (state p.old) (state p.new)) }
 {
     match p.current() {

@@ -3,13 +3,13 @@
 ghost use Rattle.std.specs.Prelude.{◌≡◌, ◌<◌, IfOk, OnOk, IsTrue, Some, true, false, if◌then◌else◌};
 ghost use Rattle.rap_base.specs.Keyword.{is_any_identifier};
 ghost use Rattle.rap_base.specs.TokenKind.{EQ};
-ghost use Rattle.rap_base.specs.NodeKind.{ASM_EXPR};
 ghost use Rattle.rap_events.specs.State.{state, next, NthAt};
 ghost use Rattle.rap_grammar_scripts.specs.Asm as script;
 ghost use Rattle.rap_grammar_scripts.specs.ThroughKnot as through_knot_script;
-ghost use Rattle.rap_grammar_frame.specs.Grew.{Behind, Closes};
+ghost use Rattle.rap_grammar_frame.specs.Grew.{Behind};
 ghost use Rattle.rap_grammar_scripts.specs.Exec.{Does};
 ghost use Rattle.rap_grammar_facts.specs.Alone.{DoesAlone};
+ghost use Rattle.rap_grammar_facts.specs.Nodes.{IsOperand};
 ghost use Rattle.rap_grammar_scripts.specs.Script.{something, again};
 ghost use Rattle.rap_grammar_scripts.specs.Test.{holds};
 ghost use Rattle.rap_grammar_scripts.specs.Words.{of_bool};
@@ -36,7 +36,7 @@ pub fn parse_asm_expr<G: Grammar>(
 ) -> Result<CompletedMarker, NoMemory>
     requires behind { Behind G.valid G.left g.now (state p.old) }
     requires newest { (state p.old).marker ≡ Some m.pos.value }
-    ensures closes { IfOk result (Closes ASM_EXPR 100 (state p.old) (state p.new)) }
+    ensures operand { IfOk result (IsOperand (state p.new)) }
     ensures script { OnOk result (Does (G.left g.now) script.parse_asm_expr something (state p.old) (state p.new)) }
 {
     p.expect(T!['('])?;

@@ -1,17 +1,15 @@
 //! The forms after `builtin#`.
 //! In the Rust crate: `grammar/expressions/atom.rs`.
-ghost use Rattle.std.specs.Prelude.{◌≡◌, ◌≢◌, ◌<◌, ◌≤◌, IfOk, OnOk, IfSome, IsTrue, Some, None, true, false, if◌then◌else◌, ◌⊎◌};
+ghost use Rattle.std.specs.Prelude.{◌≡◌, IfOk, OnOk, IfSome, IsTrue, Some, true, false, if◌then◌else◌};
 ghost use Rattle.rap_base.specs.Keyword.{is_any_identifier};
 ghost use Rattle.rap_base.specs.TokenKind.{EQ};
-ghost use Rattle.rap_events.specs.Fit.{is_plain};
 ghost use Rattle.rap_events.specs.State.{state, next, NthAt};
 ghost use Rattle.rap_grammar_scripts.specs.Builtin as script;
 ghost use Rattle.rap_grammar_scripts.specs.Words.{of_expr, of_bool, of_option, starts_builtin};
-ghost use Rattle.rap_grammar_frame.specs.Grew.{Within, Behind, Gone, Closes};
+ghost use Rattle.rap_grammar_frame.specs.Grew.{Within, Behind};
 ghost use Rattle.rap_grammar_scripts.specs.Exec.{Does};
 ghost use Rattle.rap_grammar_facts.specs.Alone.{DoesAlone};
-ghost use Rattle.rap_grammar_frame.specs.Room.{atom_room};
-ghost use Rattle.rap_grammar_frame.specs.Rules.{Operand};
+ghost use Rattle.rap_grammar_facts.specs.Nodes.{IsOperand};
 ghost use Rattle.rap_grammar_scripts.specs.Script.{something, again};
 ghost use Rattle.rap_grammar_scripts.specs.Test.{holds};
 
@@ -32,7 +30,7 @@ use rap_grammar_scripts::rule::Rule;
 pub fn builtin_expr<G: Grammar>(p: &mut Parser<'_>, g: &G) -> Result<Answer, NoMemory>
     requires within { Within G.valid G.left g.now (state p.old) }
     requires here { holds starts_builtin (state p.old).rest ≡ true }
-    ensures operand { IfOk result (Operand atom_room (state p.old) (state p.new)) }
+    ensures operand { IfOk result (λ o. IfSome o (λ e. IsOperand (state p.new) e.0)) }
     ensures script { IfOk result
         (λ e. Does (G.left g.now) script.builtin_expr (of_expr e) (state p.old) (state p.new)) }
 {
@@ -65,10 +63,7 @@ fn other_builtin<G: Grammar>(
 ) -> Result<Option<CompletedMarker>, NoMemory>
     requires behind { Behind G.valid G.left g.now (state p.old) }
     requires newest { (state p.old).marker ≡ Some m.pos.value }
-    ensures closes { IfOk result (λ o. IfSome o (λ cm. Closes cm.kind.value 100 (state p.old) (state p.new) cm)) }
-    ensures plain { IfOk result (λ o. IfSome o (λ cm. is_plain cm.kind.value ≡ true)) }
-    ensures gone { IfOk result (λ o. o ≡ None → Gone (state p.old) (state p.new) 2) }
-    ensures reported { IfOk result (λ o. o ≡ None → (state p.old).messages < (state p.new).messages) }
+    ensures operand { IfOk result (λ o. IfSome o (λ cm. IsOperand (state p.new) cm)) }
     ensures script { IfOk result
         (λ o. Does (G.left g.now) script.other_builtin (of_option o) (state p.old) (state p.new)) }
 {

@@ -1,14 +1,13 @@
 //! Closures.
 //! In the Rust crate: `grammar/expressions/atom.rs`.
-ghost use Rattle.std.specs.Prelude.{ℕ, ◌≡◌, ◌≢◌, ◌<◌, ◌≤◌, IfOk, OnOk, true, [], ◌∷◌};
-ghost use Rattle.rap_base.specs.TokenKind.{FOR_KW, CONST_KW, STATIC_KW, ASYNC_KW, MOVE_KW, PIPE};
-ghost use Rattle.rap_base.specs.NodeKind.{CLOSURE_EXPR};
-ghost use Rattle.rap_events.specs.State.{state, next};
+ghost use Rattle.std.specs.Prelude.{◌≡◌, ◌<◌, ◌≤◌, IfOk, OnOk, true};
+ghost use Rattle.rap_events.specs.State.{state};
 ghost use Rattle.rap_grammar_scripts.specs.Closures as script;
-ghost use Rattle.rap_grammar_scripts.specs.First.{one_of, is_closure};
-ghost use Rattle.rap_grammar_frame.specs.Grew.{Within, Behind, Took, Grew, Makes};
+ghost use Rattle.rap_grammar_scripts.specs.First.{is_closure};
+ghost use Rattle.rap_grammar_frame.specs.Grew.{Within, Behind};
 ghost use Rattle.rap_grammar_scripts.specs.Exec.{Does};
-ghost use Rattle.rap_grammar_frame.specs.Room.{atom_room, list_room, name_room};
+ghost use Rattle.rap_grammar_facts.specs.Alone.{DoesAlone};
+ghost use Rattle.rap_grammar_facts.specs.Nodes.{IsOperand};
 ghost use Rattle.rap_grammar_scripts.specs.Script.{something};
 ghost use Rattle.rap_grammar_scripts.specs.Test.{holds};
 
@@ -24,11 +23,11 @@ use rap_grammar_params::params::param_list_closure;
 
 /// A closure, as `|a| b`.
 #[inline(never)]
-#[tactic(auto, using(rap_grammar_facts::proofs::Params::took_param_list_closure), unfolding(rap_grammar_scripts::specs::Closures::closure_expr))]
+#[tactic(auto, using(rap_grammar_facts::proofs::Closures::facts, rap_grammar_facts::proofs::Params::took_param_list_closure), unfolding(rap_grammar_scripts::specs::Closures::closure_expr))]
 pub fn closure_expr<G: Grammar>(p: &mut Parser<'_>, g: &G) -> Result<CompletedMarker, NoMemory>
     requires within { Within G.valid G.left g.now (state p.old) }
     requires here { holds is_closure (state p.old).rest ≡ true }
-    ensures made { IfOk result (Makes CLOSURE_EXPR atom_room (state p.old) (state p.new)) }
+    ensures operand { IfOk result (IsOperand (state p.new)) }
     ensures script { OnOk result (Does (G.left g.now) script.closure_expr something (state p.old) (state p.new)) }
 {
     let m = p.start()?;
@@ -49,9 +48,6 @@ pub fn closure_expr<G: Grammar>(p: &mut Parser<'_>, g: &G) -> Result<CompletedMa
 #[tactic(auto, unfolding(rap_grammar_scripts::specs::Closures::closure_binder))]
 fn closure_binder<G: Grammar>(p: &mut Parser<'_>, g: &G) -> Result<(), NoMemory>
     requires within { Within G.valid G.left g.now (state p.old) }
-    ensures grew { OnOk result (Grew (state p.old) (state p.new) 0) }
-    ensures took { OnOk result (next (state p.old) ≡ FOR_KW → Took (state p.old) (state p.new) list_room) }
-    ensures stays { OnOk result (next (state p.old) ≢ FOR_KW → state p.new ≡ state p.old) }
     ensures script { OnOk result (Does (G.left g.now) script.closure_binder something (state p.old) (state p.new)) }
 {
     if !p.at(T![for]) {
@@ -64,13 +60,7 @@ fn closure_binder<G: Grammar>(p: &mut Parser<'_>, g: &G) -> Result<(), NoMemory>
 /// The keywords before the parameters of a closure, as `static async move`.
 #[tactic(auto, unfolding(rap_grammar_scripts::specs::Closures::closure_keywords))]
 fn closure_keywords(p: &mut Parser<'_>) -> Result<(), NoMemory>
-    ensures grew { OnOk result (Grew (state p.old) (state p.new) 0) }
-    ensures took { OnOk result
-        (one_of (CONST_KW ∷ STATIC_KW ∷ ASYNC_KW ∷ MOVE_KW ∷ []) (next (state p.old)) ≡ true →
-        Took (state p.old) (state p.new) name_room) }
-    ensures stays { OnOk result (next (state p.old) ≡ PIPE → next (state p.new) ≡ PIPE) }
-    ensures script { OnOk result
-        ((depth : ℕ) → Does depth script.closure_keywords something (state p.old) (state p.new)) }
+    ensures script { OnOk result (DoesAlone script.closure_keywords something (state p.old) (state p.new)) }
 {
     p.eat(T![const])?;
     p.eat(T![static])?;
@@ -81,10 +71,9 @@ fn closure_keywords(p: &mut Parser<'_>) -> Result<(), NoMemory>
 }
 
 /// The body of a closure: an expression, or a block if there is a return type.
-#[tactic(auto, unfolding(rap_grammar_scripts::specs::Closures::closure_body))]
+#[tactic(auto, using(rap_grammar_facts::proofs::Closures::facts), unfolding(rap_grammar_scripts::specs::Closures::closure_body))]
 fn closure_body<G: Grammar>(p: &mut Parser<'_>, g: &G) -> Result<(), NoMemory>
     requires behind { Behind G.valid G.left g.now (state p.old) }
-    ensures grew { OnOk result (Grew (state p.old) (state p.new) 8) }
     ensures script { OnOk result (Does (G.left g.now) script.closure_body something (state p.old) (state p.new)) }
 {
     if opt_ret_type(p, g)? {
@@ -103,9 +92,7 @@ fn closure_body<G: Grammar>(p: &mut Parser<'_>, g: &G) -> Result<(), NoMemory>
 /// Angle brackets that nothing opened, after the type of a closure.
 #[tactic(auto, using(rap_grammar_frame::proofs::Loops::turns, crate::proofs::Skipping::loop_skipped), unfolding(rap_grammar_scripts::specs::Closures::closing_angles))]
 fn closing_angles(p: &mut Parser<'_>) -> Result<(), NoMemory>
-    ensures grew { OnOk result (Grew (state p.old) (state p.new) 0) }
-    ensures script { OnOk result
-        ((depth : ℕ) → Does depth script.closing_angles something (state p.old) (state p.new)) }
+    ensures script { OnOk result (DoesAlone script.closing_angles something (state p.old) (state p.new)) }
 {
     'angles: while p.at(T![>]) {
         p.err_and_bump("expected a curly brace")?;

@@ -1,16 +1,14 @@
 //! Conditions, loops and labels.
 //! In the Rust crate: `grammar/expressions/atom.rs`.
-ghost use Rattle.std.specs.Prelude.{ℕ, ◌≡◌, ◌≢◌, ◌<◌, ◌≤◌, IfOk, OnOk, Some};
+ghost use Rattle.std.specs.Prelude.{ℕ, ◌≡◌, ◌≢◌, ◌<◌, ◌≤◌, IfOk, OnOk, IfSome, Some};
 ghost use Rattle.rap_base.specs.TokenKind.{IF_KW, LET_KW, LOOP_KW, WHILE_KW, FOR_KW, LIFETIME_IDENT, COLON};
-ghost use Rattle.rap_base.specs.NodeKind.{IF_EXPR, LET_EXPR, LOOP_EXPR, WHILE_EXPR, FOR_EXPR};
 ghost use Rattle.rap_events.specs.State.{state, next, NthAt};
 ghost use Rattle.rap_grammar_scripts.specs.Control as script;
 ghost use Rattle.rap_grammar_scripts.specs.Words.{of_expr};
-ghost use Rattle.rap_grammar_frame.specs.Grew.{Within, Behind, Grew, Makes, Closed};
+ghost use Rattle.rap_grammar_frame.specs.Grew.{Within, Behind};
 ghost use Rattle.rap_grammar_scripts.specs.Exec.{Does};
 ghost use Rattle.rap_grammar_facts.specs.Alone.{DoesAlone};
-ghost use Rattle.rap_grammar_frame.specs.Room.{atom_room, list_room};
-ghost use Rattle.rap_grammar_frame.specs.Rules.{Operand, OperandFrom};
+ghost use Rattle.rap_grammar_facts.specs.Nodes.{IsOperand, IsAtom, AtomIf};
 ghost use Rattle.rap_grammar_scripts.specs.Script.{something};
 
 use rap_base::T;
@@ -27,11 +25,11 @@ use rap_grammar_scripts::rule::Rule;
 
 /// An `if`, as `if a { b } else { c }`.
 #[inline(never)]
-#[tactic(auto, unfolding(rap_grammar_scripts::specs::Control::if_expr))]
+#[tactic(auto, using(rap_grammar_facts::proofs::Control::fewer_else_branch, rap_grammar_facts::proofs::Control::marker_else_branch), unfolding(rap_grammar_scripts::specs::Control::if_expr))]
 pub fn if_expr<G: Grammar>(p: &mut Parser<'_>, g: &G) -> Result<CompletedMarker, NoMemory>
     requires within { Within G.valid G.left g.now (state p.old) }
     requires here { next (state p.old) ≡ IF_KW }
-    ensures made { IfOk result (Makes IF_EXPR atom_room (state p.old) (state p.new)) }
+    ensures atom { IfOk result (IsAtom (state p.old) (state p.new)) }
     ensures script { OnOk result (Does (G.left g.now) script.if_expr something (state p.old) (state p.new)) }
 {
     let m = p.start()?;
@@ -47,7 +45,6 @@ pub fn if_expr<G: Grammar>(p: &mut Parser<'_>, g: &G) -> Result<CompletedMarker,
 #[tactic(auto, unfolding(rap_grammar_scripts::specs::Control::else_branch))]
 fn else_branch<G: Grammar>(p: &mut Parser<'_>, g: &G) -> Result<(), NoMemory>
     requires behind { Behind G.valid G.left g.now (state p.old) }
-    ensures grew { OnOk result (Grew (state p.old) (state p.new) 0) }
     ensures script { OnOk result (Does (G.left g.now) script.else_branch something (state p.old) (state p.new)) }
 {
     if !p.eat(T![else])? {
@@ -70,7 +67,7 @@ pub fn let_expr<G: Grammar>(
 ) -> Result<CompletedMarker, NoMemory>
     requires within { Within G.valid G.left g.now (state p.old) }
     requires here { next (state p.old) ≡ LET_KW }
-    ensures made { IfOk result (Makes LET_EXPR atom_room (state p.old) (state p.new)) }
+    ensures atom { IfOk result (IsAtom (state p.old) (state p.new)) }
     ensures script { OnOk result (Does (G.left g.now) (script.let_expr r) something (state p.old) (state p.new)) }
 {
     let m = p.start()?;
@@ -88,7 +85,7 @@ pub fn let_expr<G: Grammar>(
 pub fn loop_expr<G: Grammar>(p: &mut Parser<'_>, g: &G) -> Result<CompletedMarker, NoMemory>
     requires within { Within G.valid G.left g.now (state p.old) }
     requires here { next (state p.old) ≡ LOOP_KW }
-    ensures made { IfOk result (Makes LOOP_EXPR atom_room (state p.old) (state p.new)) }
+    ensures atom { IfOk result (IsAtom (state p.old) (state p.new)) }
     ensures script { OnOk result (Does (G.left g.now) script.loop_expr something (state p.old) (state p.new)) }
 {
     let m = p.start()?;
@@ -102,7 +99,7 @@ fn loop_from<G: Grammar>(p: &mut Parser<'_>, g: &G, m: Marker) -> Result<Complet
     requires within { Within G.valid G.left g.now (state p.old) }
     requires newest { (state p.old).marker ≡ Some m.pos.value }
     requires here { next (state p.old) ≡ LOOP_KW }
-    ensures closed { IfOk result (λ cm. Closed (state p.old) (state p.new) cm list_room × (cm.kind.value ≡ LOOP_EXPR)) }
+    ensures atom { IfOk result (IsAtom (state p.old) (state p.new)) }
     ensures script { OnOk result (Does (G.left g.now) script.loop_from something (state p.old) (state p.new)) }
 {
     p.bump(T![loop])?;
@@ -117,7 +114,7 @@ fn loop_from<G: Grammar>(p: &mut Parser<'_>, g: &G, m: Marker) -> Result<Complet
 pub fn while_expr<G: Grammar>(p: &mut Parser<'_>, g: &G) -> Result<CompletedMarker, NoMemory>
     requires within { Within G.valid G.left g.now (state p.old) }
     requires here { next (state p.old) ≡ WHILE_KW }
-    ensures made { IfOk result (Makes WHILE_EXPR atom_room (state p.old) (state p.new)) }
+    ensures atom { IfOk result (IsAtom (state p.old) (state p.new)) }
     ensures script { OnOk result (Does (G.left g.now) script.while_expr something (state p.old) (state p.new)) }
 {
     let m = p.start()?;
@@ -131,7 +128,7 @@ fn while_from<G: Grammar>(p: &mut Parser<'_>, g: &G, m: Marker) -> Result<Comple
     requires within { Within G.valid G.left g.now (state p.old) }
     requires newest { (state p.old).marker ≡ Some m.pos.value }
     requires here { next (state p.old) ≡ WHILE_KW }
-    ensures closed { IfOk result (λ cm. Closed (state p.old) (state p.new) cm list_room × (cm.kind.value ≡ WHILE_EXPR)) }
+    ensures atom { IfOk result (IsAtom (state p.old) (state p.new)) }
     ensures script { OnOk result (Does (G.left g.now) script.while_from something (state p.old) (state p.new)) }
 {
     p.bump(T![while])?;
@@ -147,7 +144,7 @@ fn while_from<G: Grammar>(p: &mut Parser<'_>, g: &G, m: Marker) -> Result<Comple
 pub fn for_expr<G: Grammar>(p: &mut Parser<'_>, g: &G) -> Result<CompletedMarker, NoMemory>
     requires within { Within G.valid G.left g.now (state p.old) }
     requires here { next (state p.old) ≡ FOR_KW }
-    ensures made { IfOk result (Makes FOR_EXPR atom_room (state p.old) (state p.new)) }
+    ensures atom { IfOk result (IsAtom (state p.old) (state p.new)) }
     ensures script { OnOk result (Does (G.left g.now) script.for_expr something (state p.old) (state p.new)) }
 {
     let m = p.start()?;
@@ -161,7 +158,7 @@ fn for_from<G: Grammar>(p: &mut Parser<'_>, g: &G, m: Marker) -> Result<Complete
     requires within { Within G.valid G.left g.now (state p.old) }
     requires newest { (state p.old).marker ≡ Some m.pos.value }
     requires here { next (state p.old) ≡ FOR_KW }
-    ensures closed { IfOk result (λ cm. Closed (state p.old) (state p.new) cm list_room × (cm.kind.value ≡ FOR_EXPR)) }
+    ensures atom { IfOk result (IsAtom (state p.old) (state p.new)) }
     ensures script { OnOk result (Does (G.left g.now) script.for_from something (state p.old) (state p.new)) }
 {
     p.bump(T![for])?;
@@ -180,7 +177,7 @@ pub fn labelled_expr<G: Grammar>(p: &mut Parser<'_>, g: &G) -> Result<Answer, No
     requires within { Within G.valid G.left g.now (state p.old) }
     requires here { next (state p.old) ≡ LIFETIME_IDENT }
     requires colon { NthAt (state p.old) 1 COLON }
-    ensures operand { IfOk result (Operand atom_room (state p.old) (state p.new)) }
+    ensures atom { IfOk result (AtomIf (state p.old) (state p.new)) }
     ensures script { IfOk result
         (λ e. Does (G.left g.now) script.labelled_expr (of_expr e) (state p.old) (state p.new)) }
 {
@@ -204,11 +201,11 @@ fn label(p: &mut Parser<'_>) -> Result<(), NoMemory>
 }
 
 /// What the label is of, from the newest marker on.
-#[tactic(auto, using(crate::proofs::Labels::dropped), unfolding(rap_grammar_scripts::specs::Control::labelled_from))]
+#[tactic(auto, unfolding(rap_grammar_scripts::specs::Control::labelled_from))]
 fn labelled_from<G: Grammar>(p: &mut Parser<'_>, g: &G, m: Marker) -> Result<Answer, NoMemory>
     requires within { Within G.valid G.left g.now (state p.old) }
     requires newest { (state p.old).marker ≡ Some m.pos.value }
-    ensures operand { IfOk result (OperandFrom 2 (state p.old) (state p.new)) }
+    ensures operand { IfOk result (λ o. IfSome o (λ e. IsOperand (state p.new) e.0)) }
     ensures script { IfOk result
         (λ e. Does (G.left g.now) script.labelled_from (of_expr e) (state p.old) (state p.new)) }
 {

@@ -2,17 +2,15 @@
 //! In the Rust crate: `grammar/expressions/atom.rs`.
 ghost use Rattle.std.specs.Prelude.{ℕ, ◌≡◌, ◌≢◌, ◌<◌, ◌≤◌, IfOk, OnOk, true, ◌⊎◌};
 ghost use Rattle.rap_base.specs.TokenKind.{EOF, L_CURLY, TRY_KW};
-ghost use Rattle.rap_base.specs.NodeKind.{BLOCK_EXPR};
 ghost use Rattle.rap_events.specs.State.{state, next};
 ghost use Rattle.rap_grammar_scripts.specs.EffectBlocks as script;
 ghost use Rattle.rap_grammar_scripts.specs.EffectBlocks.{is_effect_block};
 ghost use Rattle.rap_grammar_scripts.specs.Words.{of_expr};
 ghost use Rattle.rap_grammar_scripts.specs.First.{is_closure};
-ghost use Rattle.rap_grammar_frame.specs.Grew.{Within, Makes};
+ghost use Rattle.rap_grammar_frame.specs.Grew.{Within};
 ghost use Rattle.rap_grammar_scripts.specs.Exec.{Does};
 ghost use Rattle.rap_grammar_facts.specs.Alone.{DoesAlone};
-ghost use Rattle.rap_grammar_frame.specs.Room.{atom_room};
-ghost use Rattle.rap_grammar_frame.specs.Rules.{Operand};
+ghost use Rattle.rap_grammar_facts.specs.Nodes.{IsAtom, AtomIf};
 ghost use Rattle.rap_grammar_scripts.specs.Script.{something};
 ghost use Rattle.rap_grammar_scripts.specs.Test.{holds};
 
@@ -33,7 +31,7 @@ use rap_grammar_scripts::arguments::BlockLike;
 pub fn plain_block<G: Grammar>(p: &mut Parser<'_>, g: &G) -> Result<CompletedMarker, NoMemory>
     requires within { Within G.valid G.left g.now (state p.old) }
     requires here { next (state p.old) ≡ L_CURLY }
-    ensures made { IfOk result (Makes BLOCK_EXPR atom_room (state p.old) (state p.new)) }
+    ensures atom { IfOk result (IsAtom (state p.old) (state p.new)) }
     ensures script { OnOk result (Does (G.left g.now) script.plain_block something (state p.old) (state p.new)) }
 {
     let m = p.start()?;
@@ -44,11 +42,11 @@ pub fn plain_block<G: Grammar>(p: &mut Parser<'_>, g: &G) -> Result<CompletedMar
 
 /// A block with an effect, a closure, a `try` block or a `for` loop. Where none begins, the next token stands in an
 /// `ERROR`.
-#[tactic(auto, unfolding(rap_grammar_scripts::specs::EffectBlocks::effect_expr))]
+#[tactic(auto, using(rap_grammar_facts::proofs::Closures::moved_closure_expr), unfolding(rap_grammar_scripts::specs::EffectBlocks::effect_expr))]
 pub fn effect_expr<G: Grammar>(p: &mut Parser<'_>, g: &G) -> Result<Answer, NoMemory>
     requires within { Within G.valid G.left g.now (state p.old) }
     requires more { next (state p.old) ≢ EOF }
-    ensures operand { IfOk result (Operand atom_room (state p.old) (state p.new)) }
+    ensures atom { IfOk result (AtomIf (state p.old) (state p.new)) }
     ensures script { IfOk result (λ o. Does (G.left g.now) script.effect_expr (of_expr o) (state p.old) (state p.new)) }
 {
     if is_effect_block(p) {
@@ -117,7 +115,7 @@ fn effects(p: &mut Parser<'_>) -> Result<(), NoMemory>
 fn effect_block<G: Grammar>(p: &mut Parser<'_>, g: &G) -> Result<CompletedMarker, NoMemory>
     requires within { Within G.valid G.left g.now (state p.old) }
     requires starts { holds is_effect_block (state p.old).rest ≡ true }
-    ensures made { IfOk result (Makes BLOCK_EXPR atom_room (state p.old) (state p.new)) }
+    ensures atom { IfOk result (IsAtom (state p.old) (state p.new)) }
     ensures script { OnOk result (Does (G.left g.now) script.effect_block something (state p.old) (state p.new)) }
 {
     let m = p.start()?;
@@ -151,7 +149,7 @@ fn try_modifier<G: Grammar>(p: &mut Parser<'_>, g: &G) -> Result<(), NoMemory>
 fn try_block_expr<G: Grammar>(p: &mut Parser<'_>, g: &G) -> Result<CompletedMarker, NoMemory>
     requires within { Within G.valid G.left g.now (state p.old) }
     requires here { next (state p.old) ≡ TRY_KW }
-    ensures made { IfOk result (Makes BLOCK_EXPR atom_room (state p.old) (state p.new)) }
+    ensures atom { IfOk result (IsAtom (state p.old) (state p.new)) }
     ensures script { OnOk result (Does (G.left g.now) script.try_block_expr something (state p.old) (state p.new)) }
 {
     let m = p.start()?;

@@ -1,15 +1,14 @@
 //! Jump expressions, with a value or without one.
 //! In the Rust crate: `grammar/expressions/atom.rs`.
 ghost use Rattle.std.specs.Prelude.{ℕ, ◌≡◌, ◌≢◌, ◌<◌, ◌≤◌, IfOk, OnOk, true, IsTrue};
-ghost use Rattle.rap_base.specs.TokenKind.{EOF, RETURN_KW, BECOME_KW, YIELD_KW, DO_KW, CONTINUE_KW, BREAK_KW};
-ghost use Rattle.rap_base.specs.NodeKind.{RETURN_EXPR, BECOME_EXPR, YIELD_EXPR, YEET_EXPR, CONTINUE_EXPR, BREAK_EXPR};
+ghost use Rattle.rap_base.specs.TokenKind.{RETURN_KW, BECOME_KW, YIELD_KW, DO_KW, CONTINUE_KW, BREAK_KW};
 ghost use Rattle.rap_events.specs.State.{state, next};
 ghost use Rattle.rap_grammar_scripts.specs.Jumps as script;
 ghost use Rattle.rap_grammar_scripts.specs.Atom as atom_script;
-ghost use Rattle.rap_grammar_frame.specs.Grew.{Within, Behind, Grew, Makes};
+ghost use Rattle.rap_grammar_frame.specs.Grew.{Within, Behind};
 ghost use Rattle.rap_grammar_scripts.specs.Exec.{Does};
 ghost use Rattle.rap_grammar_facts.specs.Alone.{DoesAlone};
-ghost use Rattle.rap_grammar_frame.specs.Room.{atom_room};
+ghost use Rattle.rap_grammar_facts.specs.Nodes.{IsAtom};
 ghost use Rattle.rap_grammar_scripts.specs.Script.{something};
 ghost use Rattle.rap_grammar_scripts.specs.Test.{holds};
 
@@ -35,7 +34,6 @@ fn has_operand(p: &Parser<'_>, before_block: bool) -> bool
 #[tactic(auto, unfolding(rap_grammar_scripts::specs::Jumps::opt_expr))]
 fn opt_expr<G: Grammar>(p: &mut Parser<'_>, g: &G, before_block: bool) -> Result<(), NoMemory>
     requires behind { Behind G.valid G.left g.now (state p.old) }
-    ensures grew { OnOk result (Grew (state p.old) (state p.new) 8) }
     ensures script { OnOk result
         (Does (G.left g.now) (script.opt_expr before_block) something (state p.old) (state p.new)) }
 {
@@ -60,11 +58,11 @@ fn opt_lifetime(p: &mut Parser<'_>) -> Result<(), NoMemory>
 
 /// A `return`, as `return` and `return a`.
 #[inline(never)]
-#[tactic(auto, unfolding(rap_grammar_scripts::specs::Jumps::return_expr))]
+#[tactic(auto, using(rap_grammar_frame::proofs::Done::less_left, rap_grammar_frame::proofs::Done::marker_kept, rap_grammar_facts::proofs::Jumps::level_opt_expr), unfolding(rap_grammar_scripts::specs::Jumps::return_expr))]
 pub fn return_expr<G: Grammar>(p: &mut Parser<'_>, g: &G) -> Result<CompletedMarker, NoMemory>
     requires within { Within G.valid G.left g.now (state p.old) }
     requires here { next (state p.old) ≡ RETURN_KW }
-    ensures made { IfOk result (Makes RETURN_EXPR atom_room (state p.old) (state p.new)) }
+    ensures atom { IfOk result (IsAtom (state p.old) (state p.new)) }
     ensures script { OnOk result (Does (G.left g.now) script.return_expr something (state p.old) (state p.new)) }
 {
     let m = p.start()?;
@@ -80,7 +78,7 @@ pub fn return_expr<G: Grammar>(p: &mut Parser<'_>, g: &G) -> Result<CompletedMar
 pub fn become_expr<G: Grammar>(p: &mut Parser<'_>, g: &G) -> Result<CompletedMarker, NoMemory>
     requires within { Within G.valid G.left g.now (state p.old) }
     requires here { next (state p.old) ≡ BECOME_KW }
-    ensures made { IfOk result (Makes BECOME_EXPR atom_room (state p.old) (state p.new)) }
+    ensures atom { IfOk result (IsAtom (state p.old) (state p.new)) }
     ensures script { OnOk result (Does (G.left g.now) script.become_expr something (state p.old) (state p.new)) }
 {
     let m = p.start()?;
@@ -92,11 +90,11 @@ pub fn become_expr<G: Grammar>(p: &mut Parser<'_>, g: &G) -> Result<CompletedMar
 
 /// A `yield`, as `yield` and `yield a`.
 #[inline(never)]
-#[tactic(auto, unfolding(rap_grammar_scripts::specs::Jumps::yield_expr))]
+#[tactic(auto, using(rap_grammar_frame::proofs::Done::less_left, rap_grammar_frame::proofs::Done::marker_kept, rap_grammar_facts::proofs::Jumps::level_opt_expr), unfolding(rap_grammar_scripts::specs::Jumps::yield_expr))]
 pub fn yield_expr<G: Grammar>(p: &mut Parser<'_>, g: &G) -> Result<CompletedMarker, NoMemory>
     requires within { Within G.valid G.left g.now (state p.old) }
     requires here { next (state p.old) ≡ YIELD_KW }
-    ensures made { IfOk result (Makes YIELD_EXPR atom_room (state p.old) (state p.new)) }
+    ensures atom { IfOk result (IsAtom (state p.old) (state p.new)) }
     ensures script { OnOk result (Does (G.left g.now) script.yield_expr something (state p.old) (state p.new)) }
 {
     let m = p.start()?;
@@ -116,11 +114,11 @@ pub fn starts_yeet(p: &Parser<'_>) -> bool
 
 /// A `do yeet`, as `do yeet` and `do yeet a`.
 #[inline(never)]
-#[tactic(auto, unfolding(rap_grammar_scripts::specs::Jumps::yeet_expr))]
+#[tactic(auto, using(rap_grammar_facts::proofs::Jumps::fewer_opt_expr, rap_grammar_facts::proofs::Jumps::marker_opt_expr), unfolding(rap_grammar_scripts::specs::Jumps::yeet_expr))]
 pub fn yeet_expr<G: Grammar>(p: &mut Parser<'_>, g: &G) -> Result<CompletedMarker, NoMemory>
     requires within { Within G.valid G.left g.now (state p.old) }
     requires here { next (state p.old) ≡ DO_KW }
-    ensures made { IfOk result (Makes YEET_EXPR atom_room (state p.old) (state p.new)) }
+    ensures atom { IfOk result (IsAtom (state p.old) (state p.new)) }
     ensures script { OnOk result (Does (G.left g.now) script.yeet_expr something (state p.old) (state p.new)) }
 {
     let m = p.start()?;
@@ -133,10 +131,10 @@ pub fn yeet_expr<G: Grammar>(p: &mut Parser<'_>, g: &G) -> Result<CompletedMarke
 
 /// A `continue`, as `continue` and `continue 'a`.
 #[inline(never)]
-#[tactic(auto, using(rap_grammar_facts::proofs::Jumps::grew_opt_lifetime), unfolding(rap_grammar_scripts::specs::Jumps::continue_expr))]
+#[tactic(auto, using(rap_grammar_facts::proofs::Alone::alone_less_left, rap_grammar_facts::proofs::Alone::alone_marker_kept, rap_grammar_facts::proofs::Jumps::level_opt_lifetime), unfolding(rap_grammar_scripts::specs::Jumps::continue_expr))]
 pub fn continue_expr(p: &mut Parser<'_>) -> Result<CompletedMarker, NoMemory>
     requires here { next (state p.old) ≡ CONTINUE_KW }
-    ensures made { IfOk result (Makes CONTINUE_EXPR atom_room (state p.old) (state p.new)) }
+    ensures atom { IfOk result (IsAtom (state p.old) (state p.new)) }
     ensures script { OnOk result ((depth : ℕ) → Does depth script.continue_expr something (state p.old) (state p.new)) }
 {
     let m = p.start()?;
@@ -148,7 +146,7 @@ pub fn continue_expr(p: &mut Parser<'_>) -> Result<CompletedMarker, NoMemory>
 
 /// A `break`, as `break`, `break 'a` and `break 'a b`.
 #[inline(never)]
-#[tactic(auto, using(rap_grammar_facts::proofs::Jumps::grew_opt_lifetime), unfolding(rap_grammar_scripts::specs::Jumps::break_expr))]
+#[tactic(auto, using(rap_grammar_frame::proofs::Done::less_left, rap_grammar_frame::proofs::Done::marker_kept, rap_grammar_facts::proofs::Alone::alone_less_left, rap_grammar_facts::proofs::Alone::alone_marker_kept, rap_grammar_facts::proofs::Jumps::level_opt_expr, rap_grammar_facts::proofs::Jumps::level_opt_lifetime), unfolding(rap_grammar_scripts::specs::Jumps::break_expr))]
 pub fn break_expr<G: Grammar>(
     p: &mut Parser<'_>,
     g: &G,
@@ -156,7 +154,7 @@ pub fn break_expr<G: Grammar>(
 ) -> Result<CompletedMarker, NoMemory>
     requires within { Within G.valid G.left g.now (state p.old) }
     requires here { next (state p.old) ≡ BREAK_KW }
-    ensures made { IfOk result (Makes BREAK_EXPR atom_room (state p.old) (state p.new)) }
+    ensures atom { IfOk result (IsAtom (state p.old) (state p.new)) }
     ensures script { OnOk result (Does (G.left g.now) (script.break_expr r) something (state p.old) (state p.new)) }
 {
     let m = p.start()?;

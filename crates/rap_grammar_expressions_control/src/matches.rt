@@ -2,15 +2,15 @@
 //! In the Rust crate: `grammar/expressions/atom.rs`.
 ghost use Rattle.std.specs.Prelude.{ℕ, ◌≡◌, ◌≢◌, ◌<◌, ◌≤◌, IfOk, OnOk, true, false, [], ◌∷◌, if◌then◌else◌};
 ghost use Rattle.rap_base.specs.TokenKind.{IF_KW, MATCH_KW, L_CURLY};
-ghost use Rattle.rap_base.specs.NodeKind.{MATCH_EXPR, MATCH_ARM_LIST};
+ghost use Rattle.rap_base.specs.NodeKind.{MATCH_ARM_LIST};
 ghost use Rattle.rap_events.specs.Forest.{node};
 ghost use Rattle.rap_events.specs.State.{state, last_children, next};
 ghost use Rattle.rap_grammar_scripts.specs.Matches as script;
 ghost use Rattle.rap_grammar_scripts.specs.Words.{of_like, is_block};
-ghost use Rattle.rap_grammar_frame.specs.Grew.{Within, Behind, Makes};
+ghost use Rattle.rap_grammar_frame.specs.Grew.{Within, Behind};
 ghost use Rattle.rap_grammar_scripts.specs.Exec.{Does};
 ghost use Rattle.rap_grammar_facts.specs.Alone.{DoesAlone};
-ghost use Rattle.rap_grammar_frame.specs.Room.{atom_room};
+ghost use Rattle.rap_grammar_facts.specs.Nodes.{IsAtom};
 ghost use Rattle.rap_grammar_scripts.specs.Script.{something, again};
 
 use rap_base::T;
@@ -29,7 +29,7 @@ use rap_grammar_scripts::arguments::BlockLike;
 pub fn match_expr<G: Grammar>(p: &mut Parser<'_>, g: &G) -> Result<CompletedMarker, NoMemory>
     requires within { Within G.valid G.left g.now (state p.old) }
     requires here { next (state p.old) ≡ MATCH_KW }
-    ensures made { IfOk result (Makes MATCH_EXPR atom_room (state p.old) (state p.new)) }
+    ensures atom { IfOk result (IsAtom (state p.old) (state p.new)) }
     ensures script { OnOk result (Does (G.left g.now) script.match_expr something (state p.old) (state p.new)) }
 {
     let m = p.start()?;

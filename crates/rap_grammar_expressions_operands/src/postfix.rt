@@ -2,15 +2,14 @@
 //! In the Rust crate: `grammar/expressions.rs`.
 ghost use Rattle.std.specs.Prelude.{ℕ, ◌≡◌, ◌<◌, ◌≤◌, Bool, IfOk, OnOk, true, false, Some, if◌then◌else◌};
 ghost use Rattle.rap_base.specs.TokenKind.{DOT, L_PAREN, L_BRACK, AWAIT_KW, QUESTION};
-ghost use Rattle.rap_base.specs.NodeKind.{CALL_EXPR, INDEX_EXPR, METHOD_CALL_EXPR, AWAIT_EXPR, FIELD_EXPR, TRY_EXPR};
 ghost use Rattle.rap_events.specs.Fit.{is_plain};
-ghost use Rattle.rap_events.specs.State.{state, IsLast, but_last, next};
+ghost use Rattle.rap_events.specs.State.{state, IsLast, next};
 ghost use Rattle.rap_grammar_scripts.specs.Postfix as script;
 ghost use Rattle.rap_grammar_scripts.specs.Words.{of_like, is_block, of_bool};
 ghost use Rattle.rap_grammar_scripts.specs.Postfix.{is_method_call};
-ghost use Rattle.rap_grammar_frame.specs.Grew.{Within, Wraps, Behind, Closes};
+ghost use Rattle.rap_grammar_frame.specs.Grew.{Within, Behind};
 ghost use Rattle.rap_grammar_scripts.specs.Exec.{Does};
-ghost use Rattle.rap_grammar_frame.specs.Room.{operand_room, recovery_events};
+ghost use Rattle.rap_grammar_facts.specs.Nodes.{IsOperand};
 ghost use Rattle.rap_grammar_scripts.specs.Script.{something, block, again};
 ghost use Rattle.rap_grammar_scripts.specs.Test.{holds};
 
@@ -41,9 +40,7 @@ pub fn postfix_expr<G: Grammar>(
     requires within { Within G.valid G.left g.now (state p.old) }
     requires last { IsLast (state p.old) lhs lhs.kind.value }
     requires plain { is_plain lhs.kind.value ≡ true }
-    ensures last { IfOk result (λ e. IsLast (state p.new) e.0 e.0.kind.value) }
-    ensures plain { IfOk result (λ e. is_plain e.0.kind.value ≡ true) }
-    ensures one { OnOk result (but_last (state p.new).forest ≡ but_last (state p.old).forest) }
+    ensures operand { IfOk result (λ e. IsOperand (state p.new) e.0) }
     ensures script { IfOk result
         (λ e. Does (G.left g.now) (script.postfix_expr allow_calls (is_block (of_like block_like))) (of_like e.1)
         (state p.old) (state p.new)) }
@@ -71,9 +68,7 @@ fn postfix<G: Grammar>(
     requires within { Within G.valid G.left g.now (state p.old) }
     requires last { IsLast (state p.old) lhs lhs.kind.value }
     requires plain { is_plain lhs.kind.value ≡ true }
-    ensures last { IfOk result (λ e. IsLast (state p.new) e.0 e.0.kind.value) }
-    ensures plain { IfOk result (λ e. is_plain e.0.kind.value ≡ true) }
-    ensures one { OnOk result (but_last (state p.new).forest ≡ but_last (state p.old).forest) }
+    ensures operand { IfOk result (λ e. IsOperand (state p.new) e.0) }
     ensures script { IfOk result
         (λ e. (blocky : Bool) → Does (G.left g.now) (script.postfix_turn allow_calls blocky)
         (if e.1 then again true false else (if blocky then block else something)) (state p.old) (state p.new)) }
@@ -101,8 +96,7 @@ fn postfix_dot_expr<G: Grammar>(
     requires within { Within G.valid G.left g.now (state p.old) }
     requires last { IsLast (state p.old) lhs lhs.kind.value }
     requires here { next (state p.old) ≡ DOT }
-    ensures wraps { IfOk result
-        (λ e. Wraps e.0.kind.value operand_room (state p.old) (state p.new) e.0 × (is_plain e.0.kind.value ≡ true)) }
+    ensures operand { IfOk result (λ e. IsOperand (state p.new) e.0) }
     ensures script { IfOk result
         (λ e. Does (G.left g.now) script.postfix_dot_expr (of_bool e.1) (state p.old) (state p.new)) }
 {
@@ -124,9 +118,7 @@ fn after_dot<G: Grammar>(
 ) -> Result<(CompletedMarker, bool), NoMemory>
     requires behind { Behind G.valid G.left g.now (state p.old) }
     requires newest { (state p.old).marker ≡ Some m.pos.value }
-    ensures closes { IfOk result
-        (λ e. Closes e.0.kind.value recovery_events (state p.old) (state p.new) e.0 ×
-        (is_plain e.0.kind.value ≡ true)) }
+    ensures operand { IfOk result (λ e. IsOperand (state p.new) e.0) }
     ensures script { IfOk result (λ e. Does (G.left g.now) script.after_dot (of_bool e.1) (state p.old) (state p.new)) }
 {
     'fields: loop {
@@ -154,8 +146,7 @@ fn name_after_dot<G: Grammar>(
 ) -> Result<CompletedMarker, NoMemory>
     requires behind { Behind G.valid G.left g.now (state p.old) }
     requires newest { (state p.old).marker ≡ Some m.pos.value }
-    ensures closes { IfOk result
-        (λ cm. Closes cm.kind.value recovery_events (state p.old) (state p.new) cm × (is_plain cm.kind.value ≡ true)) }
+    ensures operand { IfOk result (IsOperand (state p.new)) }
     ensures script { OnOk result (Does (G.left g.now) script.name_after_dot something (state p.old) (state p.new)) }
 {
     if is_method_call(p) {
@@ -192,7 +183,7 @@ fn call_expr<G: Grammar>(
     requires within { Within G.valid G.left g.now (state p.old) }
     requires last { IsLast (state p.old) lhs lhs.kind.value }
     requires here { next (state p.old) ≡ L_PAREN }
-    ensures wraps { IfOk result (Wraps CALL_EXPR operand_room (state p.old) (state p.new)) }
+    ensures operand { IfOk result (IsOperand (state p.new)) }
     ensures script { OnOk result (Does (G.left g.now) script.call_expr something (state p.old) (state p.new)) }
 {
     let m = lhs.precede(p)?;
@@ -212,7 +203,7 @@ fn index_expr<G: Grammar>(
     requires within { Within G.valid G.left g.now (state p.old) }
     requires last { IsLast (state p.old) lhs lhs.kind.value }
     requires here { next (state p.old) ≡ L_BRACK }
-    ensures wraps { IfOk result (Wraps INDEX_EXPR operand_room (state p.old) (state p.new)) }
+    ensures operand { IfOk result (IsOperand (state p.new)) }
     ensures script { OnOk result (Does (G.left g.now) script.index_expr something (state p.old) (state p.new)) }
 {
     let m = lhs.precede(p)?;
@@ -232,7 +223,7 @@ fn method_call_expr<G: Grammar>(
 ) -> Result<CompletedMarker, NoMemory>
     requires behind { Behind G.valid G.left g.now (state p.old) }
     requires newest { (state p.old).marker ≡ Some m.pos.value }
-    ensures closes { IfOk result (Closes METHOD_CALL_EXPR recovery_events (state p.old) (state p.new)) }
+    ensures operand { IfOk result (IsOperand (state p.new)) }
     ensures script { OnOk result (Does (G.left g.now) script.method_call_expr something (state p.old) (state p.new)) }
 {
     if is_path_name(p.current()) {
@@ -246,7 +237,7 @@ fn method_call_expr<G: Grammar>(
 }
 
 /// The arguments of a method after its name, as `(1)` and `::<T>(1)`.
-#[tactic(auto, using(rap_grammar_facts::proofs::Postfix::facts), unfolding(rap_grammar_scripts::specs::Postfix::method_arguments))]
+#[tactic(auto, using(rap_grammar_facts::proofs::Postfix::marker_arg_list), unfolding(rap_grammar_scripts::specs::Postfix::method_arguments))]
 fn method_arguments<G: Grammar>(
     p: &mut Parser<'_>,
     g: &G,
@@ -254,7 +245,7 @@ fn method_arguments<G: Grammar>(
 ) -> Result<CompletedMarker, NoMemory>
     requires behind { Behind G.valid G.left g.now (state p.old) }
     requires newest { (state p.old).marker ≡ Some m.pos.value }
-    ensures closes { IfOk result (Closes METHOD_CALL_EXPR 2 (state p.old) (state p.new)) }
+    ensures operand { IfOk result (IsOperand (state p.new)) }
     ensures script { OnOk result (Does (G.left g.now) script.method_arguments something (state p.old) (state p.new)) }
 {
     opt_generic_arg_list_expr(p, g)?;
@@ -272,7 +263,7 @@ fn method_arguments<G: Grammar>(
 fn await_expr(p: &mut Parser<'_>, m: Marker) -> Result<CompletedMarker, NoMemory>
     requires newest { (state p.old).marker ≡ Some m.pos.value }
     requires here { next (state p.old) ≡ AWAIT_KW }
-    ensures closes { IfOk result (Closes AWAIT_EXPR recovery_events (state p.old) (state p.new)) }
+    ensures operand { IfOk result (IsOperand (state p.new)) }
     ensures script { OnOk result ((depth : ℕ) → Does depth script.await_expr something (state p.old) (state p.new)) }
 {
     p.bump(T![await])?;
@@ -284,7 +275,7 @@ fn await_expr(p: &mut Parser<'_>, m: Marker) -> Result<CompletedMarker, NoMemory
 #[tactic(auto, unfolding(rap_grammar_scripts::specs::Postfix::field_expr))]
 fn field_expr(p: &mut Parser<'_>, m: Marker) -> Result<CompletedMarker, NoMemory>
     requires newest { (state p.old).marker ≡ Some m.pos.value }
-    ensures closes { IfOk result (Closes FIELD_EXPR recovery_events (state p.old) (state p.new)) }
+    ensures operand { IfOk result (IsOperand (state p.new)) }
     ensures script { OnOk result ((depth : ℕ) → Does depth script.field_expr something (state p.old) (state p.new)) }
 {
     if is_path_name_or_index(p.current()) {
@@ -302,7 +293,7 @@ fn field_expr(p: &mut Parser<'_>, m: Marker) -> Result<CompletedMarker, NoMemory
 fn try_expr(p: &mut Parser<'_>, lhs: CompletedMarker) -> Result<CompletedMarker, NoMemory>
     requires last { IsLast (state p.old) lhs lhs.kind.value }
     requires here { next (state p.old) ≡ QUESTION }
-    ensures wraps { IfOk result (Wraps TRY_EXPR operand_room (state p.old) (state p.new)) }
+    ensures operand { IfOk result (IsOperand (state p.new)) }
     ensures script { OnOk result ((depth : ℕ) → Does depth script.try_expr something (state p.old) (state p.new)) }
 {
     let m = lhs.precede(p)?;

@@ -7,9 +7,9 @@ ghost use Rattle.rap_events.specs.State.{state, IsLast, At, last_children};
 ghost use Rattle.rap_events.specs.Power.{power, open_ended};
 ghost use Rattle.rap_grammar_scripts.specs.Ranges as script;
 ghost use Rattle.rap_grammar_scripts.specs.Ranges.{has_range_end};
-ghost use Rattle.rap_grammar_frame.specs.Grew.{Within, Wraps, Makes};
+ghost use Rattle.rap_grammar_frame.specs.Grew.{Within};
 ghost use Rattle.rap_grammar_scripts.specs.Exec.{Does};
-ghost use Rattle.rap_grammar_frame.specs.Room.{operand_room};
+ghost use Rattle.rap_grammar_facts.specs.Nodes.{IsAtom, Wrapped};
 ghost use Rattle.rap_grammar_scripts.specs.Script.{something};
 ghost use Rattle.rap_grammar_scripts.specs.Test.{holds};
 ghost use Rattle.rap_grammar_scripts.specs.Words.{of_bool};
@@ -47,7 +47,7 @@ pub fn range_expr<G: Grammar>(
     requires last { IsLast (state p.old) lhs lhs.kind.value }
     requires here { At (state p.old) op }
     requires power { power op ≡ 2 }
-    ensures wraps { IfOk result (λ range. Wraps RANGE_EXPR operand_room (state p.old) (state p.new) range.0) }
+    ensures wraps { IfOk result (λ range. Wrapped RANGE_EXPR (state p.old) (state p.new) range.0) }
     ensures open_end { IfOk result (λ range. range.1 ≡ false → open_ended (last_children (state p.new).forest) ≡ true) }
     ensures script { IfOk result
         (λ range. Does (G.left g.now) (script.range_expr r op) (of_bool range.1) (state p.old) (state p.new)) }
@@ -79,7 +79,7 @@ pub fn prefix_range<G: Grammar>(
     requires within { Within G.valid G.left g.now (state p.old) }
     requires here { At (state p.old) op }
     requires some { op ≢ EOF }
-    ensures made { IfOk result (Makes RANGE_EXPR operand_room (state p.old) (state p.new)) }
+    ensures atom { IfOk result (IsAtom (state p.old) (state p.new)) }
     ensures script { OnOk result
         (Does (G.left g.now) (script.prefix_range r op) something (state p.old) (state p.new)) }
 {

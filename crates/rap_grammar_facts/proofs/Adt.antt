@@ -1,6 +1,6 @@
 -- What is computed of the scripts of Adt: the open nodes are as before, and a token is taken.
 -- Written by crates/rap_grammar_facts/facts from the scripts: an edit here is lost.
-use Rattle.std.proofs.Common.{◌≡◌, ◌<◌, ℕ, Bool, true, false, List, Some, refl}
+use Rattle.std.proofs.Common.{◌≡◌, ◌<◌, ℕ, Bool, true, false, List, refl}
 use Rattle.rap_base.specs.TokenKind.{EOF, R_CURLY}
 use Rattle.rap_events.specs.Composite.{is_at}
 use Rattle.rap_events.specs.State.{state}
@@ -9,10 +9,9 @@ use Rattle.rap_grammar_scripts.specs.Effects.{level}
 use Rattle.rap_grammar_scripts.specs.Exec.{Does}
 use Rattle.rap_grammar_scripts.specs.Script.{Outcome, something}
 use Rattle.rap_grammar_scripts.specs.Words.{of_bool}
-use Rattle.rap_grammar_frame.specs.Grew.{Grew, Took, Ended}
-use Rattle.rap_grammar_frame.specs.Room.{element_room, list_room, item_room}
+use Rattle.rap_grammar_frame.specs.Grew.{Grew, Took}
+use Rattle.rap_grammar_frame.specs.Room.{element_room, element_events, list_room}
 use Rattle.rap_grammar_frame.proofs.Done.{moved, took}
-use Rattle.rap_grammar_frame.proofs.Ended.{ended}
 use Rattle.rap_grammar_facts.proofs.Alone.{kept}
 use Rattle.rap_grammar_facts.proofs.Grown.{element_grew, element_took}
 use Rattle.rap_grammar_facts.proofs.Moved.{moved_inside}
@@ -96,7 +95,7 @@ took_on_tuple_field on p q d e = element_took on p q d e refl refl
 
 pub grew_tuple_field : {n : ℕ} (on : Bool) → (p q : Parser) →
     Does n script.tuple_field (of_bool on) (state p) (state q) →
-    Grew (state p) (state q) 16
+    Grew (state p) (state q) element_events
 unfolding scripts
 grew_tuple_field on p q d = element_grew on p q d refl refl refl
 
@@ -155,12 +154,6 @@ pub moved_enum_ : {n : ℕ} {v : Outcome} → (p q : Parser) →
 unfolding scripts
 moved_enum_ p q d = moved p q d refl
 
-pub ended_enum_ : {n : ℕ} {m : ℕ} → (p q : Parser) →
-    Does n script.enum_ something (state p) (state q) →
-    (state p).marker ≡ Some m → Ended (state p) (state q) item_room
-unfolding scripts
-ended_enum_ p q d e = ended item_room p q d refl (moved p q d refl) e
-
 pub level_fields_behind_where : level script.fields_behind_where ≡ true
 unfolding scripts
 level_fields_behind_where = refl
@@ -195,23 +188,11 @@ pub moved_strukt : {n : ℕ} {v : Outcome} → (p q : Parser) →
 unfolding scripts
 moved_strukt p q d = moved p q d refl
 
-pub ended_strukt : {n : ℕ} {m : ℕ} → (p q : Parser) →
-    Does n script.strukt something (state p) (state q) →
-    (state p).marker ≡ Some m → Ended (state p) (state q) item_room
-unfolding scripts
-ended_strukt p q d e = ended item_room p q d refl (moved p q d refl) e
-
 pub moved_union : {n : ℕ} {v : Outcome} → (p q : Parser) →
     Does n script.union v (state p) (state q) →
     (state q).left < (state p).left
 unfolding scripts
 moved_union p q d = moved p q d refl
-
-pub ended_union : {n : ℕ} {m : ℕ} → (p q : Parser) →
-    Does n script.union something (state p) (state q) →
-    (state p).marker ≡ Some m → Ended (state p) (state q) item_room
-unfolding scripts
-ended_union p q d e = ended item_room p q d refl (moved p q d refl) e
 
 -- all of them
 pub ruleset facts = (
@@ -244,7 +225,6 @@ pub ruleset facts = (
   moved_variant_list,
   took_variant_list,
   moved_enum_,
-  ended_enum_,
   level_fields_behind_where,
   level_tuple_fields,
   moved_tuple_fields,
@@ -252,7 +232,5 @@ pub ruleset facts = (
   level_fields,
   level_struct_or_union,
   moved_strukt,
-  ended_strukt,
   moved_union,
-  ended_union,
 )

@@ -1,17 +1,11 @@
 -- What is computed of the scripts of ConstArgs: the open nodes are as before, and a token is taken.
 -- Written by crates/rap_grammar_facts/facts from the scripts: an edit here is lost.
-use Rattle.std.proofs.Common.{◌≡◌, ◌<◌, ℕ, true, refl}
-use Rattle.rap_events.specs.State.{state, next}
+use Rattle.std.proofs.Common.{◌≡◌, ◌<◌, true, refl}
+use Rattle.rap_events.specs.State.{state}
 use Rattle.rap_events.specs.declared.parser.Parser.{Parser}
 use Rattle.rap_grammar_scripts.specs.Effects.{level}
-use Rattle.rap_grammar_scripts.specs.Exec.{Does}
-use Rattle.rap_grammar_scripts.specs.First.{is_const_arg_first}
-use Rattle.rap_grammar_scripts.specs.Script.{Outcome, something}
-use Rattle.rap_grammar_scripts.specs.Words.{next_so}
-use Rattle.rap_grammar_frame.specs.Grew.{Took}
-use Rattle.rap_grammar_frame.specs.Room.{element_room}
-use Rattle.rap_grammar_frame.proofs.Done.{moved, took}
-use Rattle.rap_grammar_frame.proofs.Ended.{moved_where}
+use Rattle.rap_grammar_scripts.specs.Script.{Outcome}
+use Rattle.rap_grammar_frame.proofs.Done.{moved}
 use Rattle.rap_grammar_facts.specs.Alone.{DoesAlone}
 use Rattle.rap_grammar_facts.proofs.Alone.{kept}
 use Rattle.rap_grammar_scripts.proofs.Scripts.{scripts}
@@ -43,12 +37,6 @@ pub level_const_arg : level script.const_arg ≡ true
 unfolding scripts
 level_const_arg = refl
 
-pub took_const_arg : {n : ℕ} → (p q : Parser) →
-    Does n script.const_arg something (state p) (state q) →
-    is_const_arg_first (next (state p)) ≡ true → Took (state p) (state q) element_room
-unfolding scripts
-took_const_arg p q d e = took element_room p q d refl (moved_where (next_so is_const_arg_first) p q d refl e)
-
 -- all of them
 pub ruleset facts = (
   kept,
@@ -58,5 +46,4 @@ pub ruleset facts = (
   level_missing_const,
   level_const_arg_expr,
   level_const_arg,
-  took_const_arg,
 )

@@ -1,17 +1,13 @@
 -- What is computed of the scripts of Consts: the open nodes are as before, and a token is taken.
 -- Written by crates/rap_grammar_facts/facts from the scripts: an edit here is lost.
-use Rattle.std.proofs.Common.{◌≡◌, ◌<◌, ℕ, Bool, true, false, Some, refl}
+use Rattle.std.proofs.Common.{◌≡◌, ◌<◌, ℕ, Bool, true, false, refl}
 use Rattle.rap_events.specs.State.{state}
 use Rattle.rap_events.specs.declared.parser.Parser.{Parser}
 use Rattle.rap_grammar_scripts.specs.Effects.{level}
 use Rattle.rap_grammar_scripts.specs.Exec.{Does}
-use Rattle.rap_grammar_scripts.specs.Script.{Outcome, something}
-use Rattle.rap_grammar_frame.specs.Grew.{Ended}
-use Rattle.rap_grammar_frame.specs.Room.{item_room}
+use Rattle.rap_grammar_scripts.specs.Script.{Outcome}
 use Rattle.rap_grammar_frame.proofs.Done.{moved}
-use Rattle.rap_grammar_frame.proofs.Ended.{ended}
 use Rattle.rap_grammar_facts.proofs.Alone.{kept}
-use Rattle.rap_grammar_facts.proofs.Moved.{moved_each}
 use Rattle.rap_grammar_scripts.proofs.Scripts.{scripts}
 use Rattle.rap_grammar_scripts.specs.Consts as script
 
@@ -49,23 +45,11 @@ unfolding scripts
 level_const_or_static true = refl
 level_const_or_static false = refl
 
-pub ended_konst : {n : ℕ} {m : ℕ} → (p q : Parser) →
-    Does n script.konst something (state p) (state q) →
-    (state p).marker ≡ Some m → Ended (state p) (state q) item_room
-unfolding scripts
-ended_konst p q d e = ended item_room p q d refl (moved_each p q d refl) e
-
 pub moved_static_ : {n : ℕ} {v : Outcome} → (p q : Parser) →
     Does n script.static_ v (state p) (state q) →
     (state q).left < (state p).left
 unfolding scripts
 moved_static_ p q d = moved p q d refl
-
-pub ended_static_ : {n : ℕ} {m : ℕ} → (p q : Parser) →
-    Does n script.static_ something (state p) (state q) →
-    (state p).marker ≡ Some m → Ended (state p) (state q) item_room
-unfolding scripts
-ended_static_ p q d e = ended item_room p q d refl (moved p q d refl) e
 
 -- all of them
 pub ruleset facts = (
@@ -77,7 +61,5 @@ pub ruleset facts = (
   level_const_value,
   level_const_where,
   level_const_or_static,
-  ended_konst,
   moved_static_,
-  ended_static_,
 )

@@ -1,15 +1,14 @@
 -- What is computed of the scripts of Control: the open nodes are as before, and a token is taken.
 -- Written by crates/rap_grammar_facts/facts from the scripts: an edit here is lost.
-use Rattle.std.proofs.Common.{◌≡◌, ◌<◌, ℕ, true, refl}
+use Rattle.std.proofs.Common.{◌≡◌, ◌<◌, ◌≤◌, ℕ, true, refl}
 use Rattle.rap_events.specs.State.{state}
 use Rattle.rap_events.specs.declared.parser.Parser.{Parser}
 use Rattle.rap_grammar_scripts.specs.Effects.{level}
 use Rattle.rap_grammar_scripts.specs.Exec.{Does}
 use Rattle.rap_grammar_scripts.specs.Script.{Outcome, something}
 use Rattle.rap_grammar_scripts.specs.declared.arguments.Restrictions.{Restrictions}
-use Rattle.rap_grammar_frame.specs.Grew.{Took}
-use Rattle.rap_grammar_frame.specs.Room.{name_room}
-use Rattle.rap_grammar_frame.proofs.Done.{moved, took}
+use Rattle.rap_grammar_frame.proofs.Done.{less_left, marker_kept, moved}
+use Rattle.rap_grammar_frame.proofs.Ended.{below_kept}
 use Rattle.rap_grammar_facts.specs.Alone.{DoesAlone}
 use Rattle.rap_grammar_facts.proofs.Alone.{kept}
 use Rattle.rap_grammar_scripts.proofs.Scripts.{scripts}
@@ -18,6 +17,24 @@ use Rattle.rap_grammar_scripts.specs.Control as script
 pub level_else_branch : level script.else_branch ≡ true
 unfolding scripts
 level_else_branch = refl
+
+pub marker_else_branch : {n : ℕ} → (p q : Parser) →
+    Does n script.else_branch something (state p) (state q) →
+    (state q).marker ≡ (state p).marker
+unfolding scripts
+marker_else_branch p q d = marker_kept p q d refl
+
+pub below_else_branch : {n : ℕ} → (p q : Parser) →
+    Does n script.else_branch something (state p) (state q) →
+    (state q).below ≡ (state p).below
+unfolding scripts
+below_else_branch p q d = below_kept p q d refl
+
+pub fewer_else_branch : {n : ℕ} → (p q : Parser) →
+    Does n script.else_branch something (state p) (state q) →
+    (state q).left ≤ (state p).left
+unfolding scripts
+fewer_else_branch p q d = less_left p q d
 
 pub level_if_expr : level script.if_expr ≡ true
 unfolding scripts
@@ -97,12 +114,6 @@ pub moved_label : {v : Outcome} → (p q : Parser) →
 unfolding scripts
 moved_label p q d = let x = d.at 0 in moved p q x refl
 
-pub took_label : (p q : Parser) →
-    DoesAlone script.label something (state p) (state q) →
-    Took (state p) (state q) name_room
-unfolding scripts
-took_label p q d = let x = d.at 0 in took name_room p q x refl (moved p q x refl)
-
 pub level_labelled_expr : level script.labelled_expr ≡ true
 unfolding scripts
 level_labelled_expr = refl
@@ -117,6 +128,9 @@ moved_labelled_expr p q d = moved p q d refl
 pub ruleset facts = (
   kept,
   level_else_branch,
+  marker_else_branch,
+  below_else_branch,
+  fewer_else_branch,
   level_if_expr,
   moved_if_expr,
   level_let_expr,
@@ -132,7 +146,6 @@ pub ruleset facts = (
   moved_for_expr,
   level_label,
   moved_label,
-  took_label,
   level_labelled_expr,
   moved_labelled_expr,
 )

@@ -5,10 +5,8 @@ use Rattle.rap_events.specs.State.{state}
 use Rattle.rap_events.specs.declared.parser.Parser.{Parser}
 use Rattle.rap_grammar_scripts.specs.Effects.{level}
 use Rattle.rap_grammar_scripts.specs.Exec.{Does}
-use Rattle.rap_grammar_scripts.specs.Script.{Outcome, something}
-use Rattle.rap_grammar_frame.specs.Grew.{Took}
-use Rattle.rap_grammar_frame.specs.Room.{list_room}
-use Rattle.rap_grammar_frame.proofs.Done.{moved, took}
+use Rattle.rap_grammar_scripts.specs.Script.{Outcome}
+use Rattle.rap_grammar_frame.proofs.Done.{moved}
 use Rattle.rap_grammar_facts.specs.Alone.{DoesAlone}
 use Rattle.rap_grammar_facts.proofs.Alone.{kept}
 use Rattle.rap_grammar_scripts.proofs.Scripts.{scripts}
@@ -34,12 +32,6 @@ pub moved_try_modifier : {n : ℕ} {v : Outcome} → (p q : Parser) →
 unfolding scripts
 moved_try_modifier p q d = moved p q d refl
 
-pub took_try_modifier : {n : ℕ} → (p q : Parser) →
-    Does n script.try_modifier something (state p) (state q) →
-    Took (state p) (state q) list_room
-unfolding scripts
-took_try_modifier p q d = took list_room p q d refl (moved p q d refl)
-
 pub level_try_block_expr : level script.try_block_expr ≡ true
 unfolding scripts
 level_try_block_expr = refl
@@ -59,12 +51,6 @@ pub moved_effects : {v : Outcome} → (p q : Parser) →
     (state q).left < (state p).left
 unfolding scripts
 moved_effects p q d = let x = d.at 0 in moved p q x refl
-
-pub took_effects : (p q : Parser) →
-    DoesAlone script.effects something (state p) (state q) →
-    Took (state p) (state q) list_room
-unfolding scripts
-took_effects p q d = let x = d.at 0 in took list_room p q x refl (moved p q x refl)
 
 pub level_effect_block : level script.effect_block ≡ true
 unfolding scripts
@@ -87,12 +73,10 @@ pub ruleset facts = (
   moved_plain_block,
   level_try_modifier,
   moved_try_modifier,
-  took_try_modifier,
   level_try_block_expr,
   moved_try_block_expr,
   level_effects,
   moved_effects,
-  took_effects,
   level_effect_block,
   moved_effect_block,
   level_effect_expr,

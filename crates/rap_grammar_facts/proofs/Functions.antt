@@ -1,15 +1,12 @@
 -- What is computed of the scripts of Functions: the open nodes are as before, and a token is taken.
 -- Written by crates/rap_grammar_facts/facts from the scripts: an edit here is lost.
-use Rattle.std.proofs.Common.{◌≡◌, ◌<◌, ℕ, true, Some, refl}
+use Rattle.std.proofs.Common.{◌≡◌, ◌<◌, ℕ, true, refl}
 use Rattle.rap_events.specs.State.{state}
 use Rattle.rap_events.specs.declared.parser.Parser.{Parser}
 use Rattle.rap_grammar_scripts.specs.Effects.{level}
 use Rattle.rap_grammar_scripts.specs.Exec.{Does}
-use Rattle.rap_grammar_scripts.specs.Script.{Outcome, something}
-use Rattle.rap_grammar_frame.specs.Grew.{Ended}
-use Rattle.rap_grammar_frame.specs.Room.{item_room}
+use Rattle.rap_grammar_scripts.specs.Script.{Outcome}
 use Rattle.rap_grammar_frame.proofs.Done.{moved}
-use Rattle.rap_grammar_frame.proofs.Ended.{ended}
 use Rattle.rap_grammar_facts.proofs.Alone.{kept}
 use Rattle.rap_grammar_scripts.proofs.Scripts.{scripts}
 use Rattle.rap_grammar_scripts.specs.Functions as script
@@ -40,12 +37,6 @@ pub moved_fn_ : {n : ℕ} {v : Outcome} → (p q : Parser) →
 unfolding scripts
 moved_fn_ p q d = moved p q d refl
 
-pub ended_fn_ : {n : ℕ} {m : ℕ} → (p q : Parser) →
-    Does n script.fn_ something (state p) (state q) →
-    (state p).marker ≡ Some m → Ended (state p) (state q) item_room
-unfolding scripts
-ended_fn_ p q d e = ended item_room p q d refl (moved p q d refl) e
-
 -- all of them
 pub ruleset facts = (
   kept,
@@ -55,5 +46,4 @@ pub ruleset facts = (
   level_fn_body,
   level_signature,
   moved_fn_,
-  ended_fn_,
 )

@@ -1,17 +1,12 @@
 -- What is computed of the scripts of GenericArgs: the open nodes are as before, and a token is taken.
 -- Written by crates/rap_grammar_facts/facts from the scripts: an edit here is lost.
 use Rattle.std.proofs.Common.{◌≡◌, ◌<◌, ℕ, true, refl}
-use Rattle.rap_events.specs.State.{state, next}
+use Rattle.rap_events.specs.State.{state}
 use Rattle.rap_events.specs.declared.parser.Parser.{Parser}
 use Rattle.rap_grammar_scripts.specs.Effects.{level}
 use Rattle.rap_grammar_scripts.specs.Exec.{Does}
-use Rattle.rap_grammar_scripts.specs.First.{is_path_name}
-use Rattle.rap_grammar_scripts.specs.Script.{Outcome, something}
-use Rattle.rap_grammar_scripts.specs.Words.{next_so}
-use Rattle.rap_grammar_frame.specs.Grew.{Took}
-use Rattle.rap_grammar_frame.specs.Room.{element_room}
-use Rattle.rap_grammar_frame.proofs.Done.{moved, took}
-use Rattle.rap_grammar_frame.proofs.Ended.{moved_where}
+use Rattle.rap_grammar_scripts.specs.Script.{Outcome}
+use Rattle.rap_grammar_frame.proofs.Done.{moved}
 use Rattle.rap_grammar_facts.specs.Alone.{DoesAlone}
 use Rattle.rap_grammar_facts.proofs.Alone.{kept}
 use Rattle.rap_grammar_scripts.proofs.Scripts.{scripts}
@@ -26,12 +21,6 @@ pub moved_lifetime_arg : {v : Outcome} → (p q : Parser) →
     (state q).left < (state p).left
 unfolding scripts
 moved_lifetime_arg p q d = let x = d.at 0 in moved p q x refl
-
-pub took_lifetime_arg : (p q : Parser) →
-    DoesAlone script.lifetime_arg something (state p) (state q) →
-    Took (state p) (state q) element_room
-unfolding scripts
-took_lifetime_arg p q d = let x = d.at 0 in took element_room p q x refl (moved p q x refl)
 
 pub level_type_arg : level script.type_arg ≡ true
 unfolding scripts
@@ -55,12 +44,6 @@ pub level_named_arg : level script.named_arg ≡ true
 unfolding scripts
 level_named_arg = refl
 
-pub took_named_arg : {n : ℕ} → (p q : Parser) →
-    Does n script.named_arg something (state p) (state q) →
-    is_path_name (next (state p)) ≡ true → Took (state p) (state q) element_room
-unfolding scripts
-took_named_arg p q d e = took element_room p q d refl (moved_where (next_so is_path_name) p q d refl e)
-
 pub level_generic_arg : level script.generic_arg ≡ true
 unfolding scripts
 level_generic_arg = refl
@@ -70,12 +53,10 @@ pub ruleset facts = (
   kept,
   level_lifetime_arg,
   moved_lifetime_arg,
-  took_lifetime_arg,
   level_type_arg,
   level_assoc_value,
   moved_macro_arg,
   level_path_arg,
   level_named_arg,
-  took_named_arg,
   level_generic_arg,
 )

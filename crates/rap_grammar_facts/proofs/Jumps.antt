@@ -1,17 +1,16 @@
 -- What is computed of the scripts of Jumps: the open nodes are as before, and a token is taken.
 -- Written by crates/rap_grammar_facts/facts from the scripts: an edit here is lost.
-use Rattle.std.proofs.Common.{◌≡◌, ◌<◌, ℕ, Bool, true, false, refl}
+use Rattle.std.proofs.Common.{◌≡◌, ◌<◌, ◌≤◌, ℕ, Bool, true, false, refl}
 use Rattle.rap_events.specs.State.{state}
 use Rattle.rap_events.specs.declared.parser.Parser.{Parser}
 use Rattle.rap_grammar_scripts.specs.Effects.{level}
 use Rattle.rap_grammar_scripts.specs.Exec.{Does}
-use Rattle.rap_grammar_scripts.specs.Script.{Outcome}
+use Rattle.rap_grammar_scripts.specs.Script.{Outcome, something}
 use Rattle.rap_grammar_scripts.specs.declared.arguments.Restrictions.{Restrictions}
-use Rattle.rap_grammar_frame.specs.Grew.{Grew}
-use Rattle.rap_grammar_frame.proofs.Done.{moved}
+use Rattle.rap_grammar_frame.proofs.Done.{less_left, marker_kept, moved}
+use Rattle.rap_grammar_frame.proofs.Ended.{below_kept}
 use Rattle.rap_grammar_facts.specs.Alone.{DoesAlone}
 use Rattle.rap_grammar_facts.proofs.Alone.{kept}
-use Rattle.rap_grammar_facts.proofs.Grown.{grown}
 use Rattle.rap_grammar_scripts.proofs.Scripts.{scripts}
 use Rattle.rap_grammar_scripts.specs.Jumps as script
 
@@ -20,15 +19,30 @@ unfolding scripts
 level_opt_expr true = refl
 level_opt_expr false = refl
 
+pub marker_opt_expr : {n : ℕ} (a : Bool) → (p q : Parser) →
+    Does n (script.opt_expr a) something (state p) (state q) →
+    (state q).marker ≡ (state p).marker
+unfolding scripts
+marker_opt_expr true p q d = marker_kept p q d refl
+marker_opt_expr false p q d = marker_kept p q d refl
+
+pub below_opt_expr : {n : ℕ} (a : Bool) → (p q : Parser) →
+    Does n (script.opt_expr a) something (state p) (state q) →
+    (state q).below ≡ (state p).below
+unfolding scripts
+below_opt_expr true p q d = below_kept p q d refl
+below_opt_expr false p q d = below_kept p q d refl
+
+pub fewer_opt_expr : {n : ℕ} (a : Bool) → (p q : Parser) →
+    Does n (script.opt_expr a) something (state p) (state q) →
+    (state q).left ≤ (state p).left
+unfolding scripts
+fewer_opt_expr true p q d = less_left p q d
+fewer_opt_expr false p q d = less_left p q d
+
 pub level_opt_lifetime : level script.opt_lifetime ≡ true
 unfolding scripts
 level_opt_lifetime = refl
-
-pub grew_opt_lifetime : {v : Outcome} → (p q : Parser) →
-    DoesAlone script.opt_lifetime v (state p) (state q) →
-    Grew (state p) (state q) 0
-unfolding scripts
-grew_opt_lifetime p q d = let x = d.at 0 in grown 0 p q x refl
 
 pub level_return_expr : level script.return_expr ≡ true
 unfolding scripts
@@ -94,8 +108,10 @@ moved_break_expr a p q d = moved p q d refl
 pub ruleset facts = (
   kept,
   level_opt_expr,
+  marker_opt_expr,
+  below_opt_expr,
+  fewer_opt_expr,
   level_opt_lifetime,
-  grew_opt_lifetime,
   level_return_expr,
   moved_return_expr,
   level_become_expr,

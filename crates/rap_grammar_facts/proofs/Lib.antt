@@ -11,6 +11,7 @@ pub mod Consts
 pub mod Control
 pub mod EffectBlocks
 pub mod Entry
+pub mod Expressions
 pub mod Functions
 pub mod GenericArgList
 pub mod GenericArgs
@@ -31,6 +32,7 @@ pub mod PathType
 pub mod Paths
 pub mod Patterns
 pub mod Postfix
+pub mod Promised
 pub mod Records
 pub mod Statements
 pub mod ThroughKnot

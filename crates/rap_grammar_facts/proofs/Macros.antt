@@ -1,14 +1,11 @@
 -- What is computed of the scripts of Macros: the open nodes are as before, and a token is taken.
 -- Written by crates/rap_grammar_facts/facts from the scripts: an edit here is lost.
-use Rattle.std.proofs.Common.{◌≡◌, ◌<◌, ℕ, true, Some, refl, arith}
+use Rattle.std.proofs.Common.{◌≡◌, ◌<◌, true, refl, arith}
 use Rattle.rap_events.specs.State.{state}
 use Rattle.rap_events.specs.declared.parser.Parser.{Parser}
 use Rattle.rap_grammar_scripts.specs.Effects.{level}
-use Rattle.rap_grammar_scripts.specs.Script.{Outcome, something}
-use Rattle.rap_grammar_frame.specs.Grew.{Ended}
-use Rattle.rap_grammar_frame.specs.Room.{item_room}
+use Rattle.rap_grammar_scripts.specs.Script.{Outcome}
 use Rattle.rap_grammar_frame.proofs.Done.{moved}
-use Rattle.rap_grammar_frame.proofs.Ended.{ended}
 use Rattle.rap_grammar_facts.specs.Alone.{DoesDeep}
 use Rattle.rap_grammar_facts.proofs.Alone.{kept}
 use Rattle.rap_grammar_scripts.proofs.Scripts.{scripts}
@@ -24,12 +21,6 @@ pub moved_macro_rules : {v : Outcome} → (p q : Parser) →
 unfolding scripts
 moved_macro_rules p q d = let x = d.at (state p).left (omega arith) in moved p q x refl
 
-pub ended_macro_rules : {m : ℕ} → (p q : Parser) →
-    DoesDeep script.macro_rules something (state p) (state q) →
-    (state p).marker ≡ Some m → Ended (state p) (state q) item_room
-unfolding scripts
-ended_macro_rules p q d e = let x = d.at (state p).left (omega arith) in ended item_room p q x refl (moved p q x refl) e
-
 pub level_macro_def_body : level script.macro_def_body ≡ true
 unfolding scripts
 level_macro_def_body = refl
@@ -44,34 +35,19 @@ pub moved_macro_def : {v : Outcome} → (p q : Parser) →
 unfolding scripts
 moved_macro_def p q d = let x = d.at (state p).left (omega arith) in moved p q x refl
 
-pub ended_macro_def : {m : ℕ} → (p q : Parser) →
-    DoesDeep script.macro_def something (state p) (state q) →
-    (state p).marker ≡ Some m → Ended (state p) (state q) item_room
-unfolding scripts
-ended_macro_def p q d e = let x = d.at (state p).left (omega arith) in ended item_room p q x refl (moved p q x refl) e
-
 pub moved_macro_call : {v : Outcome} → (p q : Parser) →
     DoesDeep script.macro_call v (state p) (state q) →
     (state q).left < (state p).left
 unfolding scripts
 moved_macro_call p q d = let x = d.at (state p).left (omega arith) in moved p q x refl
 
-pub ended_macro_call : {m : ℕ} → (p q : Parser) →
-    DoesDeep script.macro_call something (state p) (state q) →
-    (state p).marker ≡ Some m → Ended (state p) (state q) item_room
-unfolding scripts
-ended_macro_call p q d e = let x = d.at (state p).left (omega arith) in ended item_room p q x refl (moved p q x refl) e
-
 -- all of them
 pub ruleset facts = (
   kept,
   level_rules_in_brackets,
   moved_macro_rules,
-  ended_macro_rules,
   level_macro_def_body,
   level_macro_def_tokens,
   moved_macro_def,
-  ended_macro_def,
   moved_macro_call,
-  ended_macro_call,
 )

@@ -9,7 +9,6 @@ use Rattle.rap_grammar_scripts.specs.Script.{Outcome}
 use Rattle.rap_grammar_scripts.specs.declared.arguments.Restrictions.{Restrictions}
 use Rattle.rap_grammar_frame.specs.Grew.{Grew}
 use Rattle.rap_grammar_frame.proofs.Done.{moved}
-use Rattle.rap_grammar_facts.specs.Alone.{DoesAlone}
 use Rattle.rap_grammar_facts.proofs.Alone.{kept}
 use Rattle.rap_grammar_facts.proofs.Grown.{grown}
 use Rattle.rap_grammar_scripts.proofs.Scripts.{scripts}
@@ -25,15 +24,15 @@ pub moved_cast_expr : {n : ℕ} {v : Outcome} → (p q : Parser) →
 unfolding scripts
 moved_cast_expr p q d = moved p q d refl
 
+pub grew_climb : {n : ℕ} {v : Outcome} (a : Restrictions) (b : ℕ) → (p q : Parser) →
+    Does n (script.climb a b) v (state p) (state q) →
+    Grew (state p) (state q) 0
+unfolding scripts
+grew_climb a b p q d = grown 0 p q d refl
+
 pub level_ref_qualifier : level script.ref_qualifier ≡ true
 unfolding scripts
 level_ref_qualifier = refl
-
-pub grew_ref_qualifier : {v : Outcome} → (p q : Parser) →
-    DoesAlone script.ref_qualifier v (state p) (state q) →
-    Grew (state p) (state q) 0
-unfolding scripts
-grew_ref_qualifier p q d = let x = d.at 0 in grown 0 p q x refl
 
 pub level_ref_expr : (a : Restrictions) → level (script.ref_expr a) ≡ true
 unfolding scripts
@@ -60,8 +59,8 @@ pub ruleset facts = (
   kept,
   level_cast_expr,
   moved_cast_expr,
+  grew_climb,
   level_ref_qualifier,
-  grew_ref_qualifier,
   level_ref_expr,
   moved_ref_expr,
   level_prefix_expr,

@@ -1,6 +1,6 @@
 -- What is computed of the scripts of Paths: the open nodes are as before, and a token is taken.
 -- Written by crates/rap_grammar_facts/facts from the scripts: an edit here is lost.
-use Rattle.std.proofs.Common.{◌≡◌, ◌<◌, ℕ, Bool, true, false, Some, refl}
+use Rattle.std.proofs.Common.{◌≡◌, ◌<◌, ◌≤◌, ℕ, Bool, true, false, Some, refl}
 use Rattle.rap_events.specs.State.{state}
 use Rattle.rap_events.specs.declared.parser.Parser.{Parser}
 use Rattle.rap_grammar_scripts.specs.Effects.{level}
@@ -12,8 +12,8 @@ use Rattle.rap_grammar_scripts.specs.declared.arguments.Mode.{Mode}
 use Rattle.rap_grammar_scripts.specs.declared.arguments.Mode.TheVariants as mode
 use Rattle.rap_grammar_frame.specs.Grew.{Grew, Took, Ended}
 use Rattle.rap_grammar_frame.specs.Room.{path_room, element_room}
-use Rattle.rap_grammar_frame.proofs.Done.{moved}
-use Rattle.rap_grammar_frame.proofs.Ended.{ended, moved_where}
+use Rattle.rap_grammar_frame.proofs.Done.{less_left, marker_kept, moved, took}
+use Rattle.rap_grammar_frame.proofs.Ended.{below_kept, ended, moved_where}
 use Rattle.rap_grammar_facts.specs.Alone.{DoesAlone}
 use Rattle.rap_grammar_facts.proofs.Alone.{kept}
 use Rattle.rap_grammar_facts.proofs.Grown.{grown, took_each}
@@ -132,6 +132,24 @@ pub level_use_path : level script.use_path ≡ true
 unfolding scripts
 level_use_path = refl
 
+pub marker_use_path : {n : ℕ} → (p q : Parser) →
+    Does n script.use_path something (state p) (state q) →
+    (state q).marker ≡ (state p).marker
+unfolding scripts
+marker_use_path p q d = marker_kept p q d refl
+
+pub below_use_path : {n : ℕ} → (p q : Parser) →
+    Does n script.use_path something (state p) (state q) →
+    (state q).below ≡ (state p).below
+unfolding scripts
+below_use_path p q d = below_kept p q d refl
+
+pub fewer_use_path : {n : ℕ} → (p q : Parser) →
+    Does n script.use_path something (state p) (state q) →
+    (state q).left ≤ (state p).left
+unfolding scripts
+fewer_use_path p q d = less_left p q d
+
 pub level_attr_path : level script.attr_path ≡ true
 unfolding scripts
 level_attr_path = refl
@@ -140,9 +158,21 @@ pub level_type_path : level script.type_path ≡ true
 unfolding scripts
 level_type_path = refl
 
+pub took_type_path : {n : ℕ} → (p q : Parser) →
+    Does n script.type_path something (state p) (state q) →
+    holds is_path_start (state p).rest ≡ true → Took (state p) (state q) path_room
+unfolding scripts
+took_type_path p q d e = took path_room p q d refl (moved_where is_path_start p q d refl e)
+
 pub level_expr_path : level script.expr_path ≡ true
 unfolding scripts
 level_expr_path = refl
+
+pub took_expr_path : {n : ℕ} → (p q : Parser) →
+    Does n script.expr_path something (state p) (state q) →
+    holds is_path_start (state p).rest ≡ true → Took (state p) (state q) path_room
+unfolding scripts
+took_expr_path p q d e = took path_room p q d refl (moved_where is_path_start p q d refl e)
 
 pub level_vis_path : level script.vis_path ≡ true
 unfolding scripts
@@ -171,9 +201,14 @@ pub ruleset facts = (
   grew_path,
   took_path,
   level_use_path,
+  marker_use_path,
+  below_use_path,
+  fewer_use_path,
   level_attr_path,
   level_type_path,
+  took_type_path,
   level_expr_path,
+  took_expr_path,
   level_vis_path,
   level_type_path_for_qualifier,
 )

@@ -1,6 +1,6 @@
 -- What is computed of the scripts of Patterns: the open nodes are as before, and a token is taken.
 -- Written by crates/rap_grammar_facts/facts from the scripts: an edit here is lost.
-use Rattle.std.proofs.Common.{◌≡◌, ◌<◌, ℕ, Bool, true, false, refl}
+use Rattle.std.proofs.Common.{◌≡◌, ◌<◌, ◌≤◌, ℕ, Bool, true, false, refl}
 use Rattle.rap_base.specs.TokenKind.{EOF, R_CURLY}
 use Rattle.rap_events.specs.Composite.{is_at}
 use Rattle.rap_events.specs.State.{state, next}
@@ -8,18 +8,15 @@ use Rattle.rap_events.specs.declared.parser.Parser.{Parser}
 use Rattle.rap_grammar_scripts.specs.Effects.{level}
 use Rattle.rap_grammar_scripts.specs.Exec.{Does}
 use Rattle.rap_grammar_scripts.specs.First.{is_pat_top_first}
-use Rattle.rap_grammar_scripts.specs.Recovery.{stops_of}
-use Rattle.rap_grammar_scripts.specs.Script.{Outcome, nothing, something}
+use Rattle.rap_grammar_scripts.specs.Script.{Outcome, something}
 use Rattle.rap_grammar_scripts.specs.Words.{next_so}
-use Rattle.rap_grammar_frame.specs.Grew.{Grew, Took}
-use Rattle.rap_grammar_frame.specs.Room.{list_room, single_pattern_room, atom_pattern_room, recovery_events}
-use Rattle.rap_grammar_frame.specs.Rules.{PatternUntil}
-use Rattle.rap_grammar_frame.proofs.Done.{moved, took}
-use Rattle.rap_grammar_frame.proofs.Ended.{moved_where}
+use Rattle.rap_grammar_frame.specs.Grew.{Took}
+use Rattle.rap_grammar_frame.specs.Room.{list_room}
+use Rattle.rap_grammar_frame.proofs.Done.{less_left, marker_kept, moved, took}
+use Rattle.rap_grammar_frame.proofs.Ended.{below_kept, moved_where}
 use Rattle.rap_grammar_facts.specs.Alone.{DoesAlone}
 use Rattle.rap_grammar_facts.proofs.Alone.{kept}
-use Rattle.rap_grammar_facts.proofs.Grown.{grown, until, begun}
-use Rattle.rap_grammar_facts.proofs.Moved.{moved_on, moved_inside}
+use Rattle.rap_grammar_facts.proofs.Moved.{moved_inside}
 use Rattle.rap_grammar_scripts.proofs.Scripts.{scripts}
 use Rattle.rap_grammar_scripts.specs.Patterns as script
 
@@ -214,38 +211,31 @@ unfolding scripts
 level_atom_pat true = refl
 level_atom_pat false = refl
 
-pub reads_atom_pat : {n : ℕ} (a : Bool) → (p q : Parser) →
-    Does n (script.atom_pat a) nothing (state p) (state q) →
-    PatternUntil (stops_of a) recovery_events atom_pattern_room (state p) (state q)
+pub marker_atom_pat : {n : ℕ} {v : Outcome} (a : Bool) → (p q : Parser) →
+    Does n (script.atom_pat a) v (state p) (state q) →
+    (state q).marker ≡ (state p).marker
 unfolding scripts
-reads_atom_pat true p q d = until (stops_of true) recovery_events atom_pattern_room p q d refl refl refl refl
-reads_atom_pat false p q d = until (stops_of false) recovery_events atom_pattern_room p q d refl refl refl refl
+marker_atom_pat true p q d = marker_kept p q d refl
+marker_atom_pat false p q d = marker_kept p q d refl
 
-pub begins_atom_pat : {n : ℕ} (a : Bool) → (p q : Parser) →
-    Does n (script.atom_pat a) something (state p) (state q) →
-    stops_of a (next (state p)) ≡ false
+pub below_atom_pat : {n : ℕ} {v : Outcome} (a : Bool) → (p q : Parser) →
+    Does n (script.atom_pat a) v (state p) (state q) →
+    (state q).below ≡ (state p).below
 unfolding scripts
-begins_atom_pat true p q d = begun (stops_of true) p q d refl
-begins_atom_pat false p q d = begun (stops_of false) p q d refl
+below_atom_pat true p q d = below_kept p q d refl
+below_atom_pat false p q d = below_kept p q d refl
 
-pub took_atom_pat : {n : ℕ} (a : Bool) → (p q : Parser) →
-    Does n (script.atom_pat a) something (state p) (state q) →
-    Took (state p) (state q) atom_pattern_room
+pub fewer_atom_pat : {n : ℕ} {v : Outcome} (a : Bool) → (p q : Parser) →
+    Does n (script.atom_pat a) v (state p) (state q) →
+    (state q).left ≤ (state p).left
 unfolding scripts
-took_atom_pat true p q d = took atom_pattern_room p q d refl (moved_on true p q d refl refl)
-took_atom_pat false p q d = took atom_pattern_room p q d refl (moved_on true p q d refl refl)
+fewer_atom_pat true p q d = less_left p q d
+fewer_atom_pat false p q d = less_left p q d
 
 pub level_range_op : (a : Bool) → level (script.range_op a) ≡ true
 unfolding scripts
 level_range_op true = refl
 level_range_op false = refl
-
-pub grew_range_op : {n : ℕ} {v : Outcome} (a : Bool) → (p q : Parser) →
-    Does n (script.range_op a) v (state p) (state q) →
-    Grew (state p) (state q) 0
-unfolding scripts
-grew_range_op true p q d = grown 0 p q d refl
-grew_range_op false p q d = grown 0 p q d refl
 
 pub level_range_to_pat : (a : Bool) → level (script.range_to_pat a) ≡ true
 unfolding scripts
@@ -259,13 +249,6 @@ unfolding scripts
 moved_range_to_pat true p q d = moved p q d refl
 moved_range_to_pat false p q d = moved p q d refl
 
-pub took_range_to_pat : {n : ℕ} (a : Bool) → (p q : Parser) →
-    Does n (script.range_to_pat a) something (state p) (state q) →
-    Took (state p) (state q) single_pattern_room
-unfolding scripts
-took_range_to_pat true p q d = took single_pattern_room p q d refl (moved p q d refl)
-took_range_to_pat false p q d = took single_pattern_room p q d refl (moved p q d refl)
-
 pub level_rest_pat : (a : Bool) → level (script.rest_pat a) ≡ true
 unfolding scripts
 level_rest_pat true = refl
@@ -278,22 +261,57 @@ unfolding scripts
 moved_rest_pat true p q d = moved p q d refl
 moved_rest_pat false p q d = moved p q d refl
 
-pub took_rest_pat : {n : ℕ} (a : Bool) → (p q : Parser) →
-    Does n (script.rest_pat a) something (state p) (state q) →
-    Took (state p) (state q) single_pattern_room
-unfolding scripts
-took_rest_pat true p q d = took single_pattern_room p q d refl (moved p q d refl)
-took_rest_pat false p q d = took single_pattern_room p q d refl (moved p q d refl)
-
 pub level_pattern_single_r : (a : Bool) → level (script.pattern_single_r a) ≡ true
 unfolding scripts
 level_pattern_single_r true = refl
 level_pattern_single_r false = refl
 
+pub marker_pattern_single_r : {n : ℕ} (a : Bool) → (p q : Parser) →
+    Does n (script.pattern_single_r a) something (state p) (state q) →
+    (state q).marker ≡ (state p).marker
+unfolding scripts
+marker_pattern_single_r true p q d = marker_kept p q d refl
+marker_pattern_single_r false p q d = marker_kept p q d refl
+
+pub below_pattern_single_r : {n : ℕ} (a : Bool) → (p q : Parser) →
+    Does n (script.pattern_single_r a) something (state p) (state q) →
+    (state q).below ≡ (state p).below
+unfolding scripts
+below_pattern_single_r true p q d = below_kept p q d refl
+below_pattern_single_r false p q d = below_kept p q d refl
+
+pub fewer_pattern_single_r : {n : ℕ} (a : Bool) → (p q : Parser) →
+    Does n (script.pattern_single_r a) something (state p) (state q) →
+    (state q).left ≤ (state p).left
+unfolding scripts
+fewer_pattern_single_r true p q d = less_left p q d
+fewer_pattern_single_r false p q d = less_left p q d
+
 pub level_alternatives : (a : Bool) → level (script.alternatives a) ≡ true
 unfolding scripts
 level_alternatives true = refl
 level_alternatives false = refl
+
+pub marker_alternatives : {n : ℕ} (a : Bool) → (p q : Parser) →
+    Does n (script.alternatives a) something (state p) (state q) →
+    (state q).marker ≡ (state p).marker
+unfolding scripts
+marker_alternatives true p q d = marker_kept p q d refl
+marker_alternatives false p q d = marker_kept p q d refl
+
+pub below_alternatives : {n : ℕ} (a : Bool) → (p q : Parser) →
+    Does n (script.alternatives a) something (state p) (state q) →
+    (state q).below ≡ (state p).below
+unfolding scripts
+below_alternatives true p q d = below_kept p q d refl
+below_alternatives false p q d = below_kept p q d refl
+
+pub fewer_alternatives : {n : ℕ} (a : Bool) → (p q : Parser) →
+    Does n (script.alternatives a) something (state p) (state q) →
+    (state q).left ≤ (state p).left
+unfolding scripts
+fewer_alternatives true p q d = less_left p q d
+fewer_alternatives false p q d = less_left p q d
 
 pub level_pattern_r : (a : Bool) → level (script.pattern_r a) ≡ true
 unfolding scripts
@@ -341,18 +359,21 @@ pub ruleset facts = (
   level_missing_pat,
   level_symbol_pat,
   level_atom_pat,
-  reads_atom_pat,
-  begins_atom_pat,
-  took_atom_pat,
+  marker_atom_pat,
+  below_atom_pat,
+  fewer_atom_pat,
   level_range_op,
-  grew_range_op,
   level_range_to_pat,
   moved_range_to_pat,
-  took_range_to_pat,
   level_rest_pat,
   moved_rest_pat,
-  took_rest_pat,
   level_pattern_single_r,
+  marker_pattern_single_r,
+  below_pattern_single_r,
+  fewer_pattern_single_r,
   level_alternatives,
+  marker_alternatives,
+  below_alternatives,
+  fewer_alternatives,
   level_pattern_r,
 )

@@ -1,17 +1,15 @@
 -- What is computed of the scripts of Postfix: the open nodes are as before, and a token is taken.
 -- Written by crates/rap_grammar_facts/facts from the scripts: an edit here is lost.
-use Rattle.std.proofs.Common.{◌≡◌, ◌<◌, ℕ, Bool, true, false, refl}
+use Rattle.std.proofs.Common.{◌≡◌, ◌<◌, ◌≤◌, ℕ, Bool, true, false, refl}
 use Rattle.rap_events.specs.State.{state}
 use Rattle.rap_events.specs.declared.parser.Parser.{Parser}
 use Rattle.rap_grammar_scripts.specs.Effects.{level}
 use Rattle.rap_grammar_scripts.specs.Exec.{Does}
 use Rattle.rap_grammar_scripts.specs.Script.{Outcome, something, again}
-use Rattle.rap_grammar_frame.specs.Grew.{Grew, Took}
-use Rattle.rap_grammar_frame.specs.Room.{arguments_room}
-use Rattle.rap_grammar_frame.proofs.Done.{moved, took}
+use Rattle.rap_grammar_frame.proofs.Done.{less_left, marker_kept, moved}
+use Rattle.rap_grammar_frame.proofs.Ended.{below_kept}
 use Rattle.rap_grammar_facts.specs.Alone.{DoesAlone}
 use Rattle.rap_grammar_facts.proofs.Alone.{kept}
-use Rattle.rap_grammar_facts.proofs.Grown.{grown}
 use Rattle.rap_grammar_facts.proofs.Moved.{turn_moved}
 use Rattle.rap_grammar_scripts.proofs.Scripts.{scripts}
 use Rattle.rap_grammar_scripts.specs.Postfix as script
@@ -26,11 +24,23 @@ pub moved_arg_list : {n : ℕ} {v : Outcome} → (p q : Parser) →
 unfolding scripts
 moved_arg_list p q d = moved p q d refl
 
-pub took_arg_list : {n : ℕ} → (p q : Parser) →
+pub marker_arg_list : {n : ℕ} → (p q : Parser) →
     Does n script.arg_list something (state p) (state q) →
-    Took (state p) (state q) arguments_room
+    (state q).marker ≡ (state p).marker
 unfolding scripts
-took_arg_list p q d = took arguments_room p q d refl (moved p q d refl)
+marker_arg_list p q d = marker_kept p q d refl
+
+pub below_arg_list : {n : ℕ} → (p q : Parser) →
+    Does n script.arg_list something (state p) (state q) →
+    (state q).below ≡ (state p).below
+unfolding scripts
+below_arg_list p q d = below_kept p q d refl
+
+pub fewer_arg_list : {n : ℕ} → (p q : Parser) →
+    Does n script.arg_list something (state p) (state q) →
+    (state q).left ≤ (state p).left
+unfolding scripts
+fewer_arg_list p q d = less_left p q d
 
 pub level_call_expr : level script.call_expr ≡ true
 unfolding scripts
@@ -83,21 +93,14 @@ onward_postfix_turn true false p q d = turn_moved p q d refl
 onward_postfix_turn false true p q d = turn_moved p q d refl
 onward_postfix_turn false false p q d = turn_moved p q d refl
 
-pub grew_postfix_expr : {n : ℕ} {v : Outcome} (a : Bool) (b : Bool) → (p q : Parser) →
-    Does n (script.postfix_expr a b) v (state p) (state q) →
-    Grew (state p) (state q) 0
-unfolding scripts
-grew_postfix_expr true true p q d = grown 0 p q d refl
-grew_postfix_expr true false p q d = grown 0 p q d refl
-grew_postfix_expr false true p q d = grown 0 p q d refl
-grew_postfix_expr false false p q d = grown 0 p q d refl
-
 -- all of them
 pub ruleset facts = (
   kept,
   level_arg_list,
   moved_arg_list,
-  took_arg_list,
+  marker_arg_list,
+  below_arg_list,
+  fewer_arg_list,
   level_call_expr,
   moved_call_expr,
   level_index_expr,
@@ -107,5 +110,4 @@ pub ruleset facts = (
   moved_await_expr,
   moved_postfix_dot_expr,
   onward_postfix_turn,
-  grew_postfix_expr,
 )

@@ -1,6 +1,6 @@
 -- What is computed of the scripts of Traits: the open nodes are as before, and a token is taken.
 -- Written by crates/rap_grammar_facts/facts from the scripts: an edit here is lost.
-use Rattle.std.proofs.Common.{◌≡◌, ◌<◌, ℕ, true, false, Some, refl}
+use Rattle.std.proofs.Common.{◌≡◌, ◌<◌, ◌≤◌, ℕ, true, false, refl}
 use Rattle.rap_base.specs.TokenKind.{EOF, R_CURLY}
 use Rattle.rap_events.specs.Composite.{is_at}
 use Rattle.rap_events.specs.State.{state}
@@ -8,10 +8,11 @@ use Rattle.rap_events.specs.declared.parser.Parser.{Parser}
 use Rattle.rap_grammar_scripts.specs.Effects.{level}
 use Rattle.rap_grammar_scripts.specs.Exec.{Does}
 use Rattle.rap_grammar_scripts.specs.Script.{Outcome, something}
-use Rattle.rap_grammar_frame.specs.Grew.{Took, Ended}
-use Rattle.rap_grammar_frame.specs.Room.{list_room, item_room}
-use Rattle.rap_grammar_frame.proofs.Done.{moved, took}
-use Rattle.rap_grammar_frame.proofs.Ended.{ended}
+use Rattle.rap_grammar_frame.specs.Grew.{Took}
+use Rattle.rap_grammar_frame.specs.Room.{list_room}
+use Rattle.rap_grammar_frame.proofs.Done.{less_left, marker_kept, moved, took}
+use Rattle.rap_grammar_frame.proofs.Ended.{below_kept}
+use Rattle.rap_grammar_facts.specs.Alone.{DoesAlone}
 use Rattle.rap_grammar_facts.proofs.Alone.{kept}
 use Rattle.rap_grammar_facts.proofs.Moved.{moved_inside}
 use Rattle.rap_grammar_scripts.proofs.Scripts.{scripts}
@@ -31,6 +32,24 @@ inside_assoc_item p q d e f = moved_inside p q d e f refl
 pub level_assoc_items : level script.assoc_items ≡ true
 unfolding scripts
 level_assoc_items = refl
+
+pub marker_assoc_items : {n : ℕ} → (p q : Parser) →
+    Does n script.assoc_items something (state p) (state q) →
+    (state q).marker ≡ (state p).marker
+unfolding scripts
+marker_assoc_items p q d = marker_kept p q d refl
+
+pub below_assoc_items : {n : ℕ} → (p q : Parser) →
+    Does n script.assoc_items something (state p) (state q) →
+    (state q).below ≡ (state p).below
+unfolding scripts
+below_assoc_items p q d = below_kept p q d refl
+
+pub fewer_assoc_items : {n : ℕ} → (p q : Parser) →
+    Does n script.assoc_items something (state p) (state q) →
+    (state q).left ≤ (state p).left
+unfolding scripts
+fewer_assoc_items p q d = less_left p q d
 
 pub level_assoc_item_list : level script.assoc_item_list ≡ true
 unfolding scripts
@@ -52,6 +71,24 @@ pub level_expect_assoc_item_list : level script.expect_assoc_item_list ≡ true
 unfolding scripts
 level_expect_assoc_item_list = refl
 
+pub marker_expect_assoc_item_list : {n : ℕ} → (p q : Parser) →
+    Does n script.expect_assoc_item_list something (state p) (state q) →
+    (state q).marker ≡ (state p).marker
+unfolding scripts
+marker_expect_assoc_item_list p q d = marker_kept p q d refl
+
+pub below_expect_assoc_item_list : {n : ℕ} → (p q : Parser) →
+    Does n script.expect_assoc_item_list something (state p) (state q) →
+    (state q).below ≡ (state p).below
+unfolding scripts
+below_expect_assoc_item_list p q d = below_kept p q d refl
+
+pub fewer_expect_assoc_item_list : {n : ℕ} → (p q : Parser) →
+    Does n script.expect_assoc_item_list something (state p) (state q) →
+    (state q).left ≤ (state p).left
+unfolding scripts
+fewer_expect_assoc_item_list p q d = less_left p q d
+
 pub level_trait_alias : level script.trait_alias ≡ true
 unfolding scripts
 level_trait_alias = refl
@@ -70,19 +107,49 @@ pub moved_trait_ : {n : ℕ} {v : Outcome} → (p q : Parser) →
 unfolding scripts
 moved_trait_ p q d = moved p q d refl
 
-pub ended_trait_ : {n : ℕ} {m : ℕ} → (p q : Parser) →
-    Does n script.trait_ something (state p) (state q) →
-    (state p).marker ≡ Some m → Ended (state p) (state q) item_room
-unfolding scripts
-ended_trait_ p q d e = ended item_room p q d refl (moved p q d refl) e
-
 pub level_impl_params : level script.impl_params ≡ true
 unfolding scripts
 level_impl_params = refl
 
+pub marker_impl_params : {n : ℕ} → (p q : Parser) →
+    Does n script.impl_params something (state p) (state q) →
+    (state q).marker ≡ (state p).marker
+unfolding scripts
+marker_impl_params p q d = marker_kept p q d refl
+
+pub below_impl_params : {n : ℕ} → (p q : Parser) →
+    Does n script.impl_params something (state p) (state q) →
+    (state q).below ≡ (state p).below
+unfolding scripts
+below_impl_params p q d = below_kept p q d refl
+
+pub fewer_impl_params : {n : ℕ} → (p q : Parser) →
+    Does n script.impl_params something (state p) (state q) →
+    (state q).left ≤ (state p).left
+unfolding scripts
+fewer_impl_params p q d = less_left p q d
+
 pub level_opt_negative : level script.opt_negative ≡ true
 unfolding scripts
 level_opt_negative = refl
+
+pub marker_opt_negative : (p q : Parser) →
+    DoesAlone script.opt_negative something (state p) (state q) →
+    (state q).marker ≡ (state p).marker
+unfolding scripts
+marker_opt_negative p q d = let x = d.at 0 in marker_kept p q x refl
+
+pub below_opt_negative : (p q : Parser) →
+    DoesAlone script.opt_negative something (state p) (state q) →
+    (state q).below ≡ (state p).below
+unfolding scripts
+below_opt_negative p q d = let x = d.at 0 in below_kept p q x refl
+
+pub fewer_opt_negative : (p q : Parser) →
+    DoesAlone script.opt_negative something (state p) (state q) →
+    (state q).left ≤ (state p).left
+unfolding scripts
+fewer_opt_negative p q d = let x = d.at 0 in less_left p q x
 
 pub level_impl_type : level script.impl_type ≡ true
 unfolding scripts
@@ -92,17 +159,29 @@ pub level_impl_types : level script.impl_types ≡ true
 unfolding scripts
 level_impl_types = refl
 
+pub marker_impl_types : {n : ℕ} → (p q : Parser) →
+    Does n script.impl_types something (state p) (state q) →
+    (state q).marker ≡ (state p).marker
+unfolding scripts
+marker_impl_types p q d = marker_kept p q d refl
+
+pub below_impl_types : {n : ℕ} → (p q : Parser) →
+    Does n script.impl_types something (state p) (state q) →
+    (state q).below ≡ (state p).below
+unfolding scripts
+below_impl_types p q d = below_kept p q d refl
+
+pub fewer_impl_types : {n : ℕ} → (p q : Parser) →
+    Does n script.impl_types something (state p) (state q) →
+    (state q).left ≤ (state p).left
+unfolding scripts
+fewer_impl_types p q d = less_left p q d
+
 pub moved_impl_ : {n : ℕ} {v : Outcome} → (p q : Parser) →
     Does n script.impl_ v (state p) (state q) →
     (state q).left < (state p).left
 unfolding scripts
 moved_impl_ p q d = moved p q d refl
-
-pub ended_impl_ : {n : ℕ} {m : ℕ} → (p q : Parser) →
-    Does n script.impl_ something (state p) (state q) →
-    (state p).marker ≡ Some m → Ended (state p) (state q) item_room
-unfolding scripts
-ended_impl_ p q d e = ended item_room p q d refl (moved p q d refl) e
 
 -- all of them
 pub ruleset facts = (
@@ -110,19 +189,32 @@ pub ruleset facts = (
   level_assoc_item,
   inside_assoc_item,
   level_assoc_items,
+  marker_assoc_items,
+  below_assoc_items,
+  fewer_assoc_items,
   level_assoc_item_list,
   moved_assoc_item_list,
   took_assoc_item_list,
   level_expect_assoc_item_list,
+  marker_expect_assoc_item_list,
+  below_expect_assoc_item_list,
+  fewer_expect_assoc_item_list,
   level_trait_alias,
   level_opt_bounds,
   level_trait_body,
   moved_trait_,
-  ended_trait_,
   level_impl_params,
+  marker_impl_params,
+  below_impl_params,
+  fewer_impl_params,
   level_opt_negative,
+  marker_opt_negative,
+  below_opt_negative,
+  fewer_opt_negative,
   level_impl_type,
   level_impl_types,
+  marker_impl_types,
+  below_impl_types,
+  fewer_impl_types,
   moved_impl_,
-  ended_impl_,
 )

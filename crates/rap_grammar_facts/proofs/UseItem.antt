@@ -1,16 +1,16 @@
 -- What is computed of the scripts of UseItem: the open nodes are as before, and a token is taken.
 -- Written by crates/rap_grammar_facts/facts from the scripts: an edit here is lost.
-use Rattle.std.proofs.Common.{◌≡◌, ◌<◌, ℕ, true, Some, refl}
+use Rattle.std.proofs.Common.{◌≡◌, ◌<◌, ℕ, true, refl}
 use Rattle.rap_events.specs.State.{state}
 use Rattle.rap_events.specs.declared.parser.Parser.{Parser}
 use Rattle.rap_grammar_scripts.specs.Effects.{level}
 use Rattle.rap_grammar_scripts.specs.Exec.{Does}
 use Rattle.rap_grammar_scripts.specs.Script.{Outcome, something}
 use Rattle.rap_grammar_scripts.specs.Test.{holds}
-use Rattle.rap_grammar_frame.specs.Grew.{Took, Ended}
-use Rattle.rap_grammar_frame.specs.Room.{list_room, item_room}
+use Rattle.rap_grammar_frame.specs.Grew.{Took}
+use Rattle.rap_grammar_frame.specs.Room.{list_room}
 use Rattle.rap_grammar_frame.proofs.Done.{moved, took}
-use Rattle.rap_grammar_frame.proofs.Ended.{ended, moved_where}
+use Rattle.rap_grammar_frame.proofs.Ended.{moved_where}
 use Rattle.rap_grammar_facts.proofs.Alone.{kept}
 use Rattle.rap_grammar_scripts.proofs.Scripts.{scripts}
 use Rattle.rap_grammar_scripts.specs.UseItem as script
@@ -73,12 +73,6 @@ pub moved_use_ : {n : ℕ} {v : Outcome} → (p q : Parser) →
 unfolding scripts
 moved_use_ p q d = moved p q d refl
 
-pub ended_use_ : {n : ℕ} {m : ℕ} → (p q : Parser) →
-    Does n script.use_ something (state p) (state q) →
-    (state p).marker ≡ Some m → Ended (state p) (state q) item_room
-unfolding scripts
-ended_use_ p q d e = ended item_room p q d refl (moved p q d refl) e
-
 -- all of them
 pub ruleset facts = (
   kept,
@@ -94,5 +88,4 @@ pub ruleset facts = (
   took_use_tree,
   level_expect_use_tree,
   moved_use_,
-  ended_use_,
 )

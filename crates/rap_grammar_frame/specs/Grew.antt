@@ -1,7 +1,7 @@
 -- What a grammar function does to a parser, whatever the tokens are.
 -- (What calls promise one another; no promise of the library rests on it.)
 use Rattle.std.specs.Prelude.{◌≡◌, ℕ, ◌+◌, ◌≤◌, ◌*◌, ◌<◌, Option, Some, None}
-use Rattle.rap_events.specs.Machine.{Stack, floor, push, top}
+use Rattle.rap_events.specs.Machine.{push, top}
 use Rattle.rap_events.specs.State.{State, IsLast, but_last}
 use Rattle.rap_events.specs.declared.parser.CompletedMarker.{CompletedMarker}
 
@@ -12,15 +12,6 @@ Within valid left g s = valid g × (s.left ≤ left g)
 -- The same after a token was taken.
 abbrev pub Behind : {G : Type 0} → (G → Type 0) → (G → ℕ) → G → State → Type 0
 Behind valid left g s = valid g × (s.left < left g)
-
--- the topmost of the older markers, and those below it
-abbrev pub top_marker : Stack → Option ℕ
-top_marker floor = None
-top_marker (push below marker forest) = marker
-
-abbrev pub rest : Stack → Stack
-rest floor = floor
-rest (push below marker forest) = below
 
 -- The open markers are as before. At most 256 events for each token taken, and `k` more, were recorded.
 pub record Grew (old new : State) (k : ℕ) : Type 0 where
@@ -54,13 +45,6 @@ pub record Made (old new : State) (cm : CompletedMarker) (room : ℕ) : Type 0 w
 -- the same, of a kind
 pub record Makes (node_kind room : ℕ) (old new : State) (cm : CompletedMarker) : Type 0 where
   pub made : Made old new cm room
-  pub kind : cm.kind.value ≡ node_kind
-
--- tokens were taken, and the last node became a part of a node of this kind, which is now the last
-pub record Wraps (node_kind room : ℕ) (old new : State) (cm : CompletedMarker) : Type 0 where
-  pub took : Took old new room
-  pub last : IsLast new cm cm.kind.value
-  pub one : but_last new.forest ≡ but_last old.forest
   pub kind : cm.kind.value ≡ node_kind
 
 -- tokens were taken, and the newest open marker became this node
@@ -97,15 +81,6 @@ pub record Dropped (old new : State) (k : ℕ) : Type 0 where
   pub count : new.count + 256 * new.left ≤ old.count + 256 * old.left + k
   pub messages : old.messages < new.messages
   pub below : old.below ≡ push new.below new.marker (top old.below)
-
--- the newest open marker is gone, finished or abandoned, with at most `k` events more than the tokens pay for
-pub record Gone (old new : State) (k : ℕ) : Type 0 where
-  pub input : new.input ≡ old.input
-  pub left : new.left ≤ old.left
-  pub count : new.count + 256 * new.left ≤ old.count + 256 * old.left + k
-  pub messages : old.messages ≤ new.messages
-  pub marker : new.marker ≡ top_marker old.below
-  pub below : new.below ≡ rest old.below
 
 -- a rule that makes a node, or reports a message and makes none, with at most `k` events more than its tokens pay for
 abbrev pub Reads : ℕ → ℕ → State → State → Option CompletedMarker → Type 0

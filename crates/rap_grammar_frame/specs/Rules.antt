@@ -2,18 +2,17 @@
 -- (What calls promise one another; no promise of the library rests on it.)
 use Rattle.std.specs.Prelude.{◌≡◌, ℕ, ◌≤◌, ◌<◌, ◌≢◌, Option, Some, None, Bool, true, false}
 use Rattle.rap_base.specs.TokenKind.{EOF, L_ANGLE, R_CURLY, IF_KW, WHERE_KW}
-use Rattle.rap_events.specs.Fit.{is_plain}
 use Rattle.rap_events.specs.State.{State, next}
 use Rattle.rap_events.specs.declared.parser.CompletedMarker.{CompletedMarker}
 use Rattle.rap_grammar_frame.specs.Climb.{Climbed}
 use Rattle.rap_grammar_scripts.specs.Exec.{Obeys}
 use Rattle.rap_grammar_scripts.specs.Words.{of_expr}
 use Rattle.rap_grammar_scripts.specs.First.{is_bracket, is_type_first, is_generic_arg_first, is_cfg_predicate_first, is_use_path_start}
-use Rattle.rap_grammar_frame.specs.Grew.{Grew, Took, Spent, Made, Closed, Closes, Dropped}
+use Rattle.rap_grammar_frame.specs.Grew.{Grew, Took, Made, Closed, Dropped}
 use Rattle.rap_grammar_scripts.specs.declared.rule.Rule.{Rule}
 use Rattle.rap_grammar_scripts.specs.declared.rule.Rule.TheVariants as knot
-use Rattle.rap_grammar_scripts.specs.Recovery.{stops_expr, stops_pattern, stops_arm, stops_of, stops_type}
-use Rattle.rap_grammar_frame.specs.Room.{expression_room, atom_room, statement_room, marked_room, element_room, list_room, type_room, pattern_room, single_pattern_room, atom_pattern_room, recovery_events, dropped_events}
+use Rattle.rap_grammar_scripts.specs.Recovery.{stops_expr, stops_pattern, stops_arm, stops_type}
+use Rattle.rap_grammar_frame.specs.Room.{expression_room, atom_room, statement_room, marked_room, element_room, list_room, type_room, pattern_room, single_pattern_room, dropped_events}
 use Rattle.rap_grammar_scripts.specs.Script.{Outcome, something}
 use Rattle.rap_grammar_scripts.specs.Test.{holds}
 use Rattle.rap_grammar_scripts.specs.UseItem.{is_use_tree_start}
@@ -29,16 +28,6 @@ abbrev pub Answered : State → State → Bool → ℕ → Option (CompletedMark
 Answered old new stmt bp (Some e) = Made old new e.0 expression_room × Climbed new e.0.kind.value bp stmt
 Answered old new stmt bp None = Grew old new 8 × (old.messages < new.messages) × Missed old new
 
--- an operand: a node of which no more is required; or a message, with a token in an `ERROR` at least, and no node
-abbrev pub Operand : ℕ → State → State → Option (CompletedMarker × BlockLike) → Type 0
-Operand room old new (Some e) = Made old new e.0 room × (is_plain e.0.kind.value ≡ true)
-Operand room old new None = Took old new room × (old.messages < new.messages)
-
--- the same from the newest marker on, with at most `k` events more than the tokens pay for, and the marker is gone
-abbrev pub OperandFrom : ℕ → State → State → Option (CompletedMarker × BlockLike) → Type 0
-OperandFrom k old new (Some e) = Closes e.0.kind.value k old new e.0 × (is_plain e.0.kind.value ≡ true)
-OperandFrom k old new None = Dropped old new k
-
 -- an expression from the newest marker on, or a message, and the marker is gone
 abbrev pub AnsweredFrom : State → State → Bool → ℕ → Option (CompletedMarker × BlockLike) → Type 0
 AnsweredFrom old new stmt bp (Some e) = Closed old new e.0 marked_room × Climbed new e.0.kind.value bp stmt
@@ -52,7 +41,7 @@ pub record Parsed (first : ℕ → Bool) (k room : ℕ) (old new : State) : Type
 
 -- a type: a token at least is taken where one begins, and also where the next one does not end the search for it
 pub record IsType (old new : State) : Type 0 where
-  pub grew : Grew old new 8
+  pub grew : Grew old new 20
   pub took : is_type_first (next old) ≡ true → Took old new type_room
   pub skips : stops_type (next old) ≡ false → Took old new type_room
 
@@ -66,29 +55,24 @@ abbrev pub PatternIn : ℕ → ℕ → State → State → Type 0
 PatternIn k room old new = PatternUntil stops_pattern k room old new
 
 abbrev pub IsPattern : State → State → Type 0
-IsPattern old new = PatternIn 8 pattern_room old new
+IsPattern old new = PatternIn 20 pattern_room old new
 
 -- a pattern without alternatives
 abbrev pub IsSinglePattern : State → State → Type 0
-IsSinglePattern old new = PatternIn recovery_events single_pattern_room old new
-
--- a pattern that is no range: a node, or none
-abbrev pub IsAtomPattern : Bool → State → State → Option CompletedMarker → Type 0
-IsAtomPattern in_arm old new (Some cm) = Made old new cm atom_pattern_room × (stops_pattern (next old) ≡ false)
-IsAtomPattern in_arm old new None = PatternUntil (stops_of in_arm) recovery_events atom_pattern_room old new
+IsSinglePattern old new = PatternIn 20 single_pattern_room old new
 
 -- the pattern of an arm
 abbrev pub IsArmPattern : State → State → Type 0
-IsArmPattern old new = PatternUntil stops_arm 8 pattern_room old new
+IsArmPattern old new = PatternUntil stops_arm 20 pattern_room old new
 
 -- a statement: a token is taken unless none is left
 pub record IsStatement (old new : State) : Type 0 where
-  pub grew : Grew old new 8
+  pub grew : Grew old new 20
   pub took : next old ≢ EOF → Took old new statement_room
 
 -- an item: a token is taken unless none is left, or a brace ends the list of items
 pub record IsItem (stop_on_r_curly : Bool) (old new : State) : Type 0 where
-  pub grew : Grew old new 8
+  pub grew : Grew old new 20
   pub took : next old ≢ EOF → (stop_on_r_curly ≡ true → next old ≢ R_CURLY) → Took old new statement_room
 
 -- what each rule requires

@@ -7,7 +7,7 @@ ghost use Rattle.rap_grammar_scripts.specs.Lists as script;
 ghost use Rattle.rap_grammar_frame.specs.Grew.{Behind, Grew, Took, Within};
 ghost use Rattle.rap_grammar_scripts.specs.Exec.{Does};
 ghost use Rattle.rap_grammar_scripts.specs.declared.rule.Rule.{Rule};
-ghost use Rattle.rap_grammar_frame.specs.Room.{element_room, brackets_room};
+ghost use Rattle.rap_grammar_frame.specs.Room.{element_events, element_room, brackets_room};
 ghost use Rattle.rap_grammar_scripts.specs.Script.{Script, something};
 ghost use Rattle.rap_grammar_scripts.specs.Words.{of_bool};
 
@@ -28,7 +28,7 @@ pub trait Element {
     fn parse<G: Grammar>(&self, p: &mut Parser<'_>, g: &G) -> Result<bool, NoMemory>
         requires behind { Behind G.valid G.left g.now (state p.old) }
         requires more { next (state p.old) ≢ EOF }
-        ensures grew { OnOk result (Grew (state p.old) (state p.new) 16) }
+        ensures grew { OnOk result (Grew (state p.old) (state p.new) element_events) }
         ensures took { IfOk result (λ going_on. going_on ≡ true → Took (state p.old) (state p.new) element_room) }
         ensures script { IfOk result
             (λ going_on. Does (G.left g.now) (element self.now) (of_bool going_on) (state p.old) (state p.new)) };
@@ -79,7 +79,7 @@ fn elements<G: Grammar, E: Element>(
 ) -> Result<(), NoMemory>
     requires behind { Behind G.valid G.left g.now (state p.old) }
     requires delim { delim ≢ EOF }
-    ensures grew { OnOk result (Grew (state p.old) (state p.new) 16) }
+    ensures grew { OnOk result (Grew (state p.old) (state p.new) element_events) }
     ensures script { OnOk result
         (Does (G.left g.now)
         (script.elements (E.element element.now) ket delim unexpected_delim_message.now (E.first element.now)) something

@@ -62,7 +62,7 @@ fn const_arg_expr<G: Grammar>(p: &mut Parser<'_>, g: &G) -> Result<(), NoMemory>
 }
 
 /// A path as a constant, as `a::b`.
-#[tactic(auto, unfolding(rap_grammar_scripts::specs::ConstArgs::const_path))]
+#[tactic(auto, using(rap_grammar_facts::proofs::Paths::took_expr_path), unfolding(rap_grammar_scripts::specs::ConstArgs::const_path))]
 fn const_path<G: Grammar>(p: &mut Parser<'_>, g: &G) -> Result<CompletedMarker, NoMemory>
     requires within { Within G.valid G.left g.now (state p.old) }
     requires path { holds is_path_start (state p.old).rest ≡ true }

@@ -31,7 +31,6 @@ use rap_grammar_frame::token_tree::token_tree;
 pub fn generic_param_list<G: Grammar>(p: &mut Parser<'_>, g: &G) -> Result<(), NoMemory>
     requires within { Within G.valid G.left g.now (state p.old) }
     requires here { next (state p.old) ≡ L_ANGLE }
-    ensures took { OnOk result (Took (state p.old) (state p.new) list_room) }
     ensures script { OnOk result (Does (G.left g.now) script.generic_param_list something (state p.old) (state p.new)) }
 {
     let m = p.start()?;
@@ -441,7 +440,6 @@ fn bound_macro_call(p: &mut Parser<'_>) -> Result<(), NoMemory>
 pub fn where_clause<G: Grammar>(p: &mut Parser<'_>, g: &G) -> Result<(), NoMemory>
     requires within { Within G.valid G.left g.now (state p.old) }
     requires here { next (state p.old) ≡ WHERE_KW }
-    ensures took { OnOk result (Took (state p.old) (state p.new) list_room) }
     ensures script { OnOk result (Does (G.left g.now) script.where_clause something (state p.old) (state p.new)) }
 {
     let m = p.start()?;
@@ -516,7 +514,7 @@ fn where_predicate<G: Grammar>(p: &mut Parser<'_>, g: &G) -> Result<(), NoMemory
 #[tactic(auto, using(rap_grammar_facts::proofs::GenericParams::facts), unfolding(rap_grammar_scripts::specs::GenericParams::type_predicate))]
 fn type_predicate<G: Grammar>(p: &mut Parser<'_>, g: &G) -> Result<(), NoMemory>
     requires behind { Behind G.valid G.left g.now (state p.old) }
-    ensures grew { OnOk result (Grew (state p.old) (state p.new) 9) }
+    ensures grew { OnOk result (Grew (state p.old) (state p.new) 21) }
     ensures script { OnOk result (Does (G.left g.now) script.type_predicate something (state p.old) (state p.new)) }
 {
     if p.at(T![for]) {

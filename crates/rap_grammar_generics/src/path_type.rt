@@ -18,7 +18,7 @@ use rap_grammar_frame::knot::Grammar;
 use rap_grammar_paths::paths::type_path;
 
 /// A path as a type, as `a::b`.
-#[tactic(auto, unfolding(rap_grammar_scripts::specs::PathType::path_type))]
+#[tactic(auto, using(rap_grammar_facts::proofs::Paths::took_type_path), unfolding(rap_grammar_scripts::specs::PathType::path_type))]
 pub fn path_type<G: Grammar>(p: &mut Parser<'_>, g: &G) -> Result<CompletedMarker, NoMemory>
     requires within { Within G.valid G.left g.now (state p.old) }
     requires path { holds is_path_start (state p.old).rest ≡ true }

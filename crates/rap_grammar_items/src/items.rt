@@ -1,15 +1,14 @@
 //! Items.
-ghost use Rattle.std.specs.Prelude.{ℕ, ◌≡◌, ◌≢◌, ◌<◌, ◌≤◌, IfOk, OnOk, Some, true, false, ◌⊎◌, ◌&&◌, not, List, [], ◌∷◌, Option};
-ghost use Rattle.rap_base.specs.TokenKind.{EOF, L_CURLY, R_CURLY, BANG, POUND, CRATE_KW, EXTERN_KW, MOD_KW, TYPE_KW, CONST_KW, STATIC_KW, IDENT, UNION_KW, MACRO_RULES_KW, BUILTIN_KW, GLOBAL_ASM_KW};
+ghost use Rattle.std.specs.Prelude.{ℕ, ◌≡◌, IfOk, OnOk, Some, true, ◌&&◌, not, [], ◌∷◌};
+ghost use Rattle.rap_base.specs.TokenKind.{EOF, L_CURLY, R_CURLY, POUND, EXTERN_KW, CONST_KW, STATIC_KW, UNION_KW, MACRO_RULES_KW, BUILTIN_KW, GLOBAL_ASM_KW};
 ghost use Rattle.rap_events.specs.Record.{contextual_at};
 ghost use Rattle.rap_events.specs.State.{state, next, ReadsAs, NthAt};
-ghost use Rattle.rap_grammar_scripts.specs.First.{is_use_path_start, one_of};
-ghost use Rattle.rap_grammar_frame.specs.Grew.{Within, Behind, Took, Grew, Ended};
+ghost use Rattle.rap_grammar_scripts.specs.First.{one_of};
+ghost use Rattle.rap_grammar_frame.specs.Grew.{Within};
 ghost use Rattle.rap_grammar_scripts.specs.Items as script;
-ghost use Rattle.rap_grammar_items_kinds.specs.ItemEnds.{of_item, EndsOrKeeps, ReportsOrKeeps, EndsReportsOrKeeps, EndsItem, SkipsItem};
+ghost use Rattle.rap_grammar_items.specs.ItemEnds.{of_item, HandsBack};
+ghost use Rattle.rap_grammar_facts.specs.Alone.{DoesAlone};
 ghost use Rattle.rap_grammar_scripts.specs.Exec.{Does};
-ghost use Rattle.rap_grammar_frame.specs.Room.{item_room, list_room};
-ghost use Rattle.rap_grammar_frame.specs.Rules.{IsItem};
 ghost use Rattle.rap_grammar_scripts.specs.Script.{something};
 ghost use Rattle.rap_grammar_scripts.specs.Test.{holds};
 ghost use Rattle.rap_grammar_scripts.specs.Words.{next_is};
@@ -36,7 +35,7 @@ use rap_grammar_paths::paths::use_path;
 use rap_grammar_paths::visibility::opt_visibility;
 
 /// An item from the newest marker on, if one comes next; else the marker is handed back.
-#[tactic(auto, using(rap_grammar_items_kinds::proofs::Seeing::ended_visible, rap_grammar_items_kinds::proofs::Seeing::handed_kept), unfolding(rap_grammar_scripts::specs::Items::opt_item))]
+#[tactic(auto, using(rap_grammar_facts::proofs::Items::fewer_opt_item_without_modifiers), unfolding(rap_grammar_scripts::specs::Items::opt_item))]
 pub fn opt_item<G: Grammar>(
     p: &mut Parser<'_>,
     g: &G,
@@ -45,7 +44,7 @@ pub fn opt_item<G: Grammar>(
 ) -> Result<Result<(), Marker>, NoMemory>
     requires within { Within G.valid G.left g.now (state p.old) }
     requires newest { (state p.old).marker ≡ Some m.pos.value }
-    ensures handed { IfOk result (EndsOrKeeps (state p.old) (state p.new)) }
+    ensures newest { IfOk result (HandsBack (state p.new)) }
     ensures script { IfOk result
         (λ item. Does (G.left g.now) (script.opt_item is_in_extern) (of_item item) (state p.old) (state p.new)) }
 {
@@ -60,7 +59,7 @@ pub fn opt_item<G: Grammar>(
 }
 
 /// An item from its modifiers on, if one comes next; else the marker is handed back, unless something stood before it.
-#[tactic(auto, using(rap_grammar_items_kinds::proofs::Seeing::parted, rap_grammar_items_kinds::proofs::Seeing::refused_kept), unfolding(rap_grammar_scripts::specs::Items::opt_modified_item))]
+#[tactic(auto, using(rap_grammar_frame::proofs::Done::less_left, rap_grammar_frame::proofs::Done::marker_kept, rap_grammar_facts::proofs::Modifiers::level_modifiers), unfolding(rap_grammar_scripts::specs::Items::opt_modified_item))]
 fn opt_modified_item<G: Grammar>(
     p: &mut Parser<'_>,
     g: &G,
@@ -70,7 +69,7 @@ fn opt_modified_item<G: Grammar>(
 ) -> Result<Result<(), Marker>, NoMemory>
     requires within { Within G.valid G.left g.now (state p.old) }
     requires newest { (state p.old).marker ≡ Some m.pos.value }
-    ensures handed { IfOk result (EndsReportsOrKeeps has_visibility (state p.old) (state p.new)) }
+    ensures newest { IfOk result (HandsBack (state p.new)) }
     ensures script { IfOk result
         (λ item. Does (G.left g.now) (script.opt_modified_item has_visibility is_in_extern) (of_item item) (state p.old)
         (state p.new)) }
@@ -86,7 +85,7 @@ fn opt_modified_item<G: Grammar>(
 }
 
 /// Reports what stands before an item where none follows; else the marker is handed back.
-#[tactic(auto, using(rap_grammar_items_kinds::proofs::Seeing::dropped, rap_grammar_items_kinds::proofs::Seeing::or_first, rap_grammar_items_kinds::proofs::Seeing::or_last), unfolding(rap_grammar_scripts::specs::Items::refuse))]
+#[tactic(auto, unfolding(rap_grammar_scripts::specs::Items::refuse))]
 fn refuse(
     p: &mut Parser<'_>,
     m: Marker,
@@ -94,7 +93,7 @@ fn refuse(
     has_mods: bool,
 ) -> Result<Result<(), Marker>, NoMemory>
     requires newest { (state p.old).marker ≡ Some m.pos.value }
-    ensures refused { IfOk result (ReportsOrKeeps has_visibility has_mods (state p.old) (state p.new)) }
+    ensures newest { IfOk result (HandsBack (state p.new)) }
     ensures script { IfOk result
         (λ item. (depth : ℕ) → Does depth (script.refuse has_visibility has_mods) (of_item item) (state p.old)
         (state p.new)) }
@@ -113,7 +112,7 @@ fn refuse(
 }
 
 /// An item that begins with a keyword of its own, or with a name that is read as one.
-#[tactic(auto, using(rap_grammar_facts::proofs::UseItem::ended_use_, rap_grammar_facts::proofs::Modules::ended_mod_item, rap_grammar_facts::proofs::Modules::ended_type_item, rap_grammar_facts::proofs::Macros::ended_macro_def), unfolding(rap_grammar_scripts::specs::Items::opt_item_without_modifiers))]
+#[tactic(auto, unfolding(rap_grammar_scripts::specs::Items::opt_item_without_modifiers))]
 fn opt_item_without_modifiers<G: Grammar>(
     p: &mut Parser<'_>,
     g: &G,
@@ -121,7 +120,7 @@ fn opt_item_without_modifiers<G: Grammar>(
 ) -> Result<Result<(), Marker>, NoMemory>
     requires within { Within G.valid G.left g.now (state p.old) }
     requires newest { (state p.old).marker ≡ Some m.pos.value }
-    ensures handed { IfOk result (EndsOrKeeps (state p.old) (state p.new)) }
+    ensures newest { IfOk result (HandsBack (state p.new)) }
     ensures script { IfOk result
         (λ item. Does (G.left g.now) script.opt_item_without_modifiers (of_item item) (state p.old) (state p.new)) }
 {
@@ -159,11 +158,11 @@ fn opt_item_without_modifiers<G: Grammar>(
 }
 
 /// A crate's name, as `extern crate a;`, if `crate` follows.
-#[tactic(auto, using(rap_grammar_facts::proofs::Modules::ended_extern_crate), unfolding(rap_grammar_scripts::specs::Items::opt_extern_crate))]
+#[tactic(auto, unfolding(rap_grammar_scripts::specs::Items::opt_extern_crate))]
 fn opt_extern_crate(p: &mut Parser<'_>, m: Marker) -> Result<Result<(), Marker>, NoMemory>
     requires newest { (state p.old).marker ≡ Some m.pos.value }
     requires here { next (state p.old) ≡ EXTERN_KW }
-    ensures handed { IfOk result (EndsOrKeeps (state p.old) (state p.new)) }
+    ensures newest { IfOk result (HandsBack (state p.new)) }
     ensures script { IfOk result
         (λ item. (depth : ℕ) → Does depth script.opt_extern_crate (of_item item) (state p.old) (state p.new)) }
 {
@@ -182,7 +181,7 @@ fn is_named(p: &Parser<'_>) -> bool
 }
 
 /// A constant, if its name follows.
-#[tactic(auto, using(rap_grammar_facts::proofs::Consts::ended_konst), unfolding(rap_grammar_scripts::specs::Items::opt_named_const))]
+#[tactic(auto, unfolding(rap_grammar_scripts::specs::Items::opt_named_const))]
 fn opt_named_const<G: Grammar>(
     p: &mut Parser<'_>,
     g: &G,
@@ -191,7 +190,7 @@ fn opt_named_const<G: Grammar>(
     requires within { Within G.valid G.left g.now (state p.old) }
     requires newest { (state p.old).marker ≡ Some m.pos.value }
     requires here { next (state p.old) ≡ CONST_KW }
-    ensures handed { IfOk result (EndsOrKeeps (state p.old) (state p.new)) }
+    ensures newest { IfOk result (HandsBack (state p.new)) }
     ensures script { IfOk result
         (λ item. Does (G.left g.now) script.opt_named_const (of_item item) (state p.old) (state p.new)) }
 {
@@ -203,7 +202,7 @@ fn opt_named_const<G: Grammar>(
 }
 
 /// A constant after modifiers, if its `const` begins no block.
-#[tactic(auto, using(rap_grammar_facts::proofs::Consts::ended_konst), unfolding(rap_grammar_scripts::specs::Items::opt_const))]
+#[tactic(auto, unfolding(rap_grammar_scripts::specs::Items::opt_const))]
 fn opt_const<G: Grammar>(
     p: &mut Parser<'_>,
     g: &G,
@@ -212,7 +211,7 @@ fn opt_const<G: Grammar>(
     requires within { Within G.valid G.left g.now (state p.old) }
     requires newest { (state p.old).marker ≡ Some m.pos.value }
     requires here { next (state p.old) ≡ CONST_KW }
-    ensures handed { IfOk result (EndsOrKeeps (state p.old) (state p.new)) }
+    ensures newest { IfOk result (HandsBack (state p.new)) }
     ensures script { IfOk result
         (λ item. Does (G.left g.now) script.opt_const (of_item item) (state p.old) (state p.new)) }
 {
@@ -224,7 +223,7 @@ fn opt_const<G: Grammar>(
 }
 
 /// A static, if its name follows.
-#[tactic(auto, using(rap_grammar_facts::proofs::Consts::ended_static_), unfolding(rap_grammar_scripts::specs::Items::opt_static))]
+#[tactic(auto, unfolding(rap_grammar_scripts::specs::Items::opt_static))]
 fn opt_static<G: Grammar>(
     p: &mut Parser<'_>,
     g: &G,
@@ -233,7 +232,7 @@ fn opt_static<G: Grammar>(
     requires within { Within G.valid G.left g.now (state p.old) }
     requires newest { (state p.old).marker ≡ Some m.pos.value }
     requires here { next (state p.old) ≡ STATIC_KW }
-    ensures handed { IfOk result (EndsOrKeeps (state p.old) (state p.new)) }
+    ensures newest { IfOk result (HandsBack (state p.new)) }
     ensures script { IfOk result
         (λ item. Does (G.left g.now) script.opt_static (of_item item) (state p.old) (state p.new)) }
 {
@@ -271,7 +270,7 @@ fn starts_global_asm(p: &Parser<'_>) -> bool
 }
 
 /// An item that begins with a name that is read as a keyword, as `union`.
-#[tactic(auto, using(rap_grammar_facts::proofs::Macros::ended_macro_rules), unfolding(rap_grammar_scripts::specs::Items::opt_item_by_name))]
+#[tactic(auto, unfolding(rap_grammar_scripts::specs::Items::opt_item_by_name))]
 fn opt_item_by_name<G: Grammar>(
     p: &mut Parser<'_>,
     g: &G,
@@ -279,7 +278,7 @@ fn opt_item_by_name<G: Grammar>(
 ) -> Result<Result<(), Marker>, NoMemory>
     requires within { Within G.valid G.left g.now (state p.old) }
     requires newest { (state p.old).marker ≡ Some m.pos.value }
-    ensures handed { IfOk result (EndsOrKeeps (state p.old) (state p.new)) }
+    ensures newest { IfOk result (HandsBack (state p.new)) }
     ensures script { IfOk result
         (λ item. Does (G.left g.now) script.opt_item_by_name (of_item item) (state p.old) (state p.new)) }
 {
@@ -299,14 +298,13 @@ fn opt_item_by_name<G: Grammar>(
 }
 
 /// Assembly in the place of an item, as `builtin#global_asm("")`.
-#[tactic(auto, unfolding(rap_events::specs::Machine::top, rap_grammar_scripts::specs::Items::global_asm))]
+#[tactic(auto, unfolding(rap_grammar_scripts::specs::Items::global_asm))]
 fn global_asm<G: Grammar>(p: &mut Parser<'_>, g: &G, m: Marker) -> Result<(), NoMemory>
     requires within { Within G.valid G.left g.now (state p.old) }
     requires newest { (state p.old).marker ≡ Some m.pos.value }
     requires bears { ReadsAs (state p.old) BUILTIN_KW }
     requires pound { NthAt (state p.old) 1 POUND }
     requires more { contextual_at (state p.old).rest 2 ≡ GLOBAL_ASM_KW }
-    ensures ended { OnOk result (Ended (state p.old) (state p.new) item_room) }
     ensures script { OnOk result (Does (G.left g.now) script.global_asm something (state p.old) (state p.new)) }
 {
     p.bump_remap(T![builtin])?;
@@ -317,7 +315,7 @@ fn global_asm<G: Grammar>(p: &mut Parser<'_>, g: &G, m: Marker) -> Result<(), No
 }
 
 /// An item after its modifiers, if one comes next; else the marker is handed back.
-#[tactic(auto, using(rap_grammar_facts::proofs::Functions::ended_fn_, rap_grammar_facts::proofs::Traits::ended_trait_, rap_grammar_facts::proofs::Traits::ended_impl_, rap_grammar_facts::proofs::Modules::ended_type_item), unfolding(rap_grammar_scripts::specs::Items::opt_item_with_modifiers))]
+#[tactic(auto, unfolding(rap_grammar_scripts::specs::Items::opt_item_with_modifiers))]
 fn opt_item_with_modifiers<G: Grammar>(
     p: &mut Parser<'_>,
     g: &G,
@@ -326,7 +324,7 @@ fn opt_item_with_modifiers<G: Grammar>(
 ) -> Result<Result<(), Marker>, NoMemory>
     requires within { Within G.valid G.left g.now (state p.old) }
     requires newest { (state p.old).marker ≡ Some m.pos.value }
-    ensures handed { IfOk result (EndsOrKeeps (state p.old) (state p.new)) }
+    ensures newest { IfOk result (HandsBack (state p.new)) }
     ensures script { IfOk result
         (λ item. Does (G.left g.now) (script.opt_item_with_modifiers has_extern) (of_item item) (state p.old)
         (state p.new)) }
@@ -356,7 +354,7 @@ fn opt_item_with_modifiers<G: Grammar>(
 }
 
 /// A block of foreign items after its ABI, as the `{}` of `extern {}`.
-#[tactic(auto, using(rap_grammar_facts::proofs::Modules::took_extern_item_list), unfolding(rap_events::specs::Machine::top, rap_grammar_scripts::specs::Items::opt_extern_block))]
+#[tactic(auto, using(rap_grammar_facts::proofs::Modules::took_extern_item_list), unfolding(rap_grammar_scripts::specs::Items::opt_extern_block))]
 fn opt_extern_block<G: Grammar>(
     p: &mut Parser<'_>,
     g: &G,
@@ -366,7 +364,7 @@ fn opt_extern_block<G: Grammar>(
     requires within { Within G.valid G.left g.now (state p.old) }
     requires newest { (state p.old).marker ≡ Some m.pos.value }
     requires here { next (state p.old) ≡ L_CURLY }
-    ensures handed { IfOk result (EndsOrKeeps (state p.old) (state p.new)) }
+    ensures newest { IfOk result (HandsBack (state p.new)) }
     ensures script { IfOk result
         (λ item. Does (G.left g.now) (script.opt_extern_block has_extern) (of_item item) (state p.old) (state p.new)) }
 {
@@ -388,7 +386,6 @@ pub fn item_or_macro<G: Grammar>(
     is_in_extern: bool,
 ) -> Result<(), NoMemory>
     requires within { Within G.valid G.left g.now (state p.old) }
-    ensures item { OnOk result (IsItem stop_on_r_curly (state p.old) (state p.new)) }
     ensures script { OnOk result
         (Does (G.left g.now) (script.item_or_macro stop_on_r_curly is_in_extern) something (state p.old)
         (state p.new)) }
@@ -400,7 +397,7 @@ pub fn item_or_macro<G: Grammar>(
 }
 
 /// An item after its attributes, or what stands in its place.
-#[tactic(auto, using(rap_grammar_items_kinds::proofs::Seeing::ends_behind, rap_grammar_items_kinds::proofs::Seeing::ends_kept), unfolding(rap_grammar_scripts::specs::Items::marked_item))]
+#[tactic(auto, using(rap_grammar_facts::proofs::Items::fewer_opt_item), unfolding(rap_grammar_scripts::specs::Items::marked_item))]
 fn marked_item<G: Grammar>(
     p: &mut Parser<'_>,
     g: &G,
@@ -410,7 +407,6 @@ fn marked_item<G: Grammar>(
 ) -> Result<(), NoMemory>
     requires within { Within G.valid G.left g.now (state p.old) }
     requires newest { (state p.old).marker ≡ Some m.pos.value }
-    ensures item { OnOk result (EndsItem stop_on_r_curly (state p.old) (state p.new)) }
     ensures script { OnOk result
         (Does (G.left g.now) (script.marked_item stop_on_r_curly is_in_extern) something (state p.old) (state p.new)) }
 {
@@ -429,8 +425,7 @@ fn marked_item<G: Grammar>(
 /// A semicolon after an item, which is taken into an `ERROR`.
 #[tactic(auto, unfolding(rap_grammar_scripts::specs::Items::after_item))]
 fn after_item(p: &mut Parser<'_>) -> Result<(), NoMemory>
-    ensures grew { OnOk result (Grew (state p.old) (state p.new) 0) }
-    ensures script { OnOk result ((depth : ℕ) → Does depth script.after_item something (state p.old) (state p.new)) }
+    ensures script { OnOk result (DoesAlone script.after_item something (state p.old) (state p.new)) }
 {
     if !p.at(T![;]) {
         return Ok(());
@@ -440,7 +435,7 @@ fn after_item(p: &mut Parser<'_>) -> Result<(), NoMemory>
 }
 
 /// A macro call in the place of an item; where neither begins, that is reported.
-#[tactic(auto, using(rap_grammar_items_kinds::proofs::Seeing::ends_at, rap_grammar_items_kinds::proofs::Seeing::ends_without), unfolding(rap_grammar_scripts::specs::Items::macro_or_error))]
+#[tactic(auto, unfolding(rap_grammar_scripts::specs::Items::macro_or_error))]
 fn macro_or_error<G: Grammar>(
     p: &mut Parser<'_>,
     g: &G,
@@ -449,7 +444,6 @@ fn macro_or_error<G: Grammar>(
 ) -> Result<(), NoMemory>
     requires within { Within G.valid G.left g.now (state p.old) }
     requires newest { (state p.old).marker ≡ Some m.pos.value }
-    ensures item { OnOk result (EndsItem stop_on_r_curly (state p.old) (state p.new)) }
     ensures script { OnOk result
         (Does (G.left g.now) (script.macro_or_error stop_on_r_curly) something (state p.old) (state p.new)) }
 {
@@ -463,12 +457,10 @@ fn macro_or_error<G: Grammar>(
 }
 
 /// A macro call from its path on, or a path alone, which is no item.
-#[tactic(auto, unfolding(rap_events::specs::Machine::top, rap_grammar_scripts::specs::Items::path_item))]
+#[tactic(auto, using(rap_grammar_facts::proofs::Paths::fewer_use_path, rap_grammar_facts::proofs::Paths::marker_use_path), unfolding(rap_grammar_scripts::specs::Items::path_item))]
 fn path_item<G: Grammar>(p: &mut Parser<'_>, g: &G, m: Marker) -> Result<(), NoMemory>
     requires within { Within G.valid G.left g.now (state p.old) }
     requires newest { (state p.old).marker ≡ Some m.pos.value }
-    requires path { holds is_use_path_start (state p.old).rest ≡ true }
-    ensures ended { OnOk result (Ended (state p.old) (state p.new) item_room) }
     ensures script { OnOk result (Does (G.left g.now) script.path_item something (state p.old) (state p.new)) }
 {
     use_path(p, g)?;
@@ -482,14 +474,13 @@ fn path_item<G: Grammar>(p: &mut Parser<'_>, g: &G, m: Marker) -> Result<(), NoM
 }
 
 /// Reports that no item begins, with what comes next in an `ERROR`.
-#[tactic(auto, using(rap_grammar_items_kinds::proofs::Seeing::skips_took, rap_grammar_items_kinds::proofs::Seeing::skips_reported, rap_grammar_items_kinds::proofs::Seeing::skips_bumped), unfolding(rap_grammar_scripts::specs::Items::missing_item))]
+#[tactic(auto, unfolding(rap_grammar_scripts::specs::Items::missing_item))]
 fn missing_item<G: Grammar>(
     p: &mut Parser<'_>,
     g: &G,
     stop_on_r_curly: bool,
 ) -> Result<(), NoMemory>
     requires within { Within G.valid G.left g.now (state p.old) }
-    ensures item { OnOk result (SkipsItem stop_on_r_curly (state p.old) (state p.new)) }
     ensures script { OnOk result
         (Does (G.left g.now) (script.missing_item stop_on_r_curly) something (state p.old) (state p.new)) }
 {
@@ -517,7 +508,6 @@ fn missing_item<G: Grammar>(
 fn is_unmatched(p: &Parser<'_>, stop_on_r_curly: bool) -> bool
     ensures here { result ≡ holds (next_is R_CURLY) (state p.now).rest && not stop_on_r_curly }
     ensures more { result ≡ true → next (state p.now) ≡ R_CURLY }
-    ensures kept { result ≡ false → next (state p.now) ≡ R_CURLY → stop_on_r_curly ≡ true }
 {
     p.current() == T!['}'] && !stop_on_r_curly
 }
@@ -525,8 +515,6 @@ fn is_unmatched(p: &Parser<'_>, stop_on_r_curly: bool) -> bool
 /// Whether no token is left, or a brace comes next.
 fn is_at_end(p: &Parser<'_>) -> bool
     ensures here { result ≡ one_of (EOF ∷ R_CURLY ∷ []) (next (state p.now)) }
-    ensures more { result ≡ true → next (state p.now) ≢ EOF → next (state p.now) ≡ R_CURLY }
-    ensures some { result ≡ false → next (state p.now) ≢ EOF }
 {
     matches!(p.current(), SyntaxKind::EOF | T!['}'])
 }
@@ -535,7 +523,6 @@ fn is_at_end(p: &Parser<'_>) -> bool
 #[tactic(auto, unfolding(rap_grammar_scripts::specs::Items::unmatched_brace))]
 fn unmatched_brace(p: &mut Parser<'_>) -> Result<(), NoMemory>
     requires here { next (state p.old) ≡ R_CURLY }
-    ensures took { OnOk result (Took (state p.old) (state p.new) list_room) }
     ensures script { OnOk result
         ((depth : ℕ) → Does depth script.unmatched_brace something (state p.old) (state p.new)) }
 {

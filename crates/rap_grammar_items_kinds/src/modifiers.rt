@@ -1,13 +1,11 @@
 //! What may stand before the keyword of an item.
 //! In the Rust crate: `grammar/items.rs`.
-ghost use Rattle.std.specs.Prelude.{ℕ, ◌≡◌, ◌≢◌, ◌<◌, ◌≤◌, IfOk, OnOk, IsTrue, true, false, ◌⊎◌, ◌||◌};
+ghost use Rattle.std.specs.Prelude.{ℕ, ◌≡◌, ◌≢◌, IfOk, OnOk, true, ◌||◌};
 ghost use Rattle.rap_base.specs.TokenKind.{EOF, IMPL_KW, CONST_KW, ASYNC_KW, GEN_KW, UNSAFE_KW, SAFE_KW, AUTO_KW, DEFAULT_KW};
 ghost use Rattle.rap_events.specs.State.{state, next, At, NthAt, ReadsAs};
-ghost use Rattle.rap_grammar_frame.specs.Grew.{Within, Took, Grew};
+ghost use Rattle.rap_grammar_frame.specs.Grew.{Within};
 ghost use Rattle.rap_grammar_scripts.specs.Exec.{Does};
 ghost use Rattle.rap_grammar_scripts.specs.Modifiers as script;
-ghost use Rattle.rap_grammar_items_kinds.specs.ItemEnds.{TookIf};
-ghost use Rattle.rap_grammar_frame.specs.Room.{list_room};
 ghost use Rattle.rap_grammar_scripts.specs.Script.{something, again};
 ghost use Rattle.rap_grammar_scripts.specs.Test.{Test, holds};
 ghost use Rattle.rap_grammar_scripts.specs.Words.{of_bool};
@@ -28,14 +26,13 @@ pub struct ItemModifiers {
 }
 
 /// The modifiers of an item, as `pub(crate) const unsafe extern "C"` before `fn`, without the `pub`.
-#[tactic(auto, using(crate::proofs::Seeing::seen_five), unfolding(rap_grammar_scripts::specs::Modifiers::modifiers))]
+#[tactic(auto, unfolding(rap_grammar_scripts::specs::Modifiers::modifiers))]
 pub fn modifiers<G: Grammar>(
     p: &mut Parser<'_>,
     g: &G,
     is_in_extern: bool,
 ) -> Result<ItemModifiers, NoMemory>
     requires within { Within G.valid G.left g.now (state p.old) }
-    ensures seen { IfOk result (λ found. TookIf (state p.old) (state p.new) found.has_mods) }
     ensures script { IfOk result
         (λ found. Does (G.left g.now) (script.modifiers is_in_extern) (again found.has_mods found.has_extern)
         (state p.old) (state p.new)) }
@@ -77,7 +74,6 @@ fn is_impl_restriction(p: &Parser<'_>) -> bool
 #[tactic(auto, unfolding(rap_grammar_scripts::specs::Modifiers::opt_impl_restriction))]
 fn opt_impl_restriction<G: Grammar>(p: &mut Parser<'_>, g: &G) -> Result<bool, NoMemory>
     requires within { Within G.valid G.left g.now (state p.old) }
-    ensures seen { IfOk result (λ found. TookIf (state p.old) (state p.new) found) }
     ensures script { IfOk result
         (λ found. Does (G.left g.now) script.opt_impl_restriction (of_bool found) (state p.old) (state p.new)) }
 {
@@ -93,7 +89,6 @@ fn opt_impl_restriction<G: Grammar>(p: &mut Parser<'_>, g: &G) -> Result<bool, N
 fn impl_restriction<G: Grammar>(p: &mut Parser<'_>, g: &G) -> Result<(), NoMemory>
     requires within { Within G.valid G.left g.now (state p.old) }
     requires here { next (state p.old) ≡ IMPL_KW }
-    ensures took { OnOk result (Took (state p.old) (state p.new) list_room) }
     ensures script { OnOk result (Does (G.left g.now) script.impl_restriction something (state p.old) (state p.new)) }
 {
     let m = p.start()?;
@@ -112,7 +107,6 @@ fn impl_restriction<G: Grammar>(p: &mut Parser<'_>, g: &G) -> Result<(), NoMemor
 fn modifier(p: &mut Parser<'_>, found: bool, kind: SyntaxKind) -> Result<bool, NoMemory>
     requires here { found ≡ true → At (state p.old) kind }
     requires some { kind ≢ EOF }
-    ensures seen { IfOk result (λ some. TookIf (state p.old) (state p.new) some) }
     ensures script { IfOk result
         (λ some. (depth : ℕ) → (t : Test) → found ≡ holds t (state p.old).rest →
         Does depth (script.modifier t kind) (of_bool some) (state p.old) (state p.new)) }
@@ -128,7 +122,6 @@ fn modifier(p: &mut Parser<'_>, found: bool, kind: SyntaxKind) -> Result<bool, N
 #[tactic(auto, unfolding(rap_grammar_scripts::specs::Modifiers::modifier_as))]
 fn modifier_as(p: &mut Parser<'_>, found: bool, kind: SyntaxKind) -> Result<bool, NoMemory>
     requires here { found ≡ true → ReadsAs (state p.old) kind }
-    ensures seen { IfOk result (λ some. TookIf (state p.old) (state p.new) some) }
     ensures script { IfOk result
         (λ some. (depth : ℕ) → (t : Test) → found ≡ holds t (state p.old).rest →
         Does depth (script.modifier_as t kind) (of_bool some) (state p.old) (state p.new)) }
@@ -191,9 +184,8 @@ fn is_auto_modifier(p: &Parser<'_>) -> bool
 }
 
 /// The `const` and `async` of a function. Returns whether there was one of them.
-#[tactic(auto, using(crate::proofs::Seeing::seen_three), unfolding(rap_grammar_scripts::specs::Modifiers::qualifiers))]
+#[tactic(auto, unfolding(rap_grammar_scripts::specs::Modifiers::qualifiers))]
 fn qualifiers(p: &mut Parser<'_>) -> Result<bool, NoMemory>
-    ensures seen { IfOk result (λ found. TookIf (state p.old) (state p.new) found) }
     ensures script { IfOk result
         (λ found. (depth : ℕ) → Does depth script.qualifiers (of_bool found) (state p.old) (state p.new)) }
 {
@@ -207,9 +199,8 @@ fn qualifiers(p: &mut Parser<'_>) -> Result<bool, NoMemory>
 }
 
 /// `unsafe`, and `safe` in an `extern` block. Returns whether there was one.
-#[tactic(auto, using(crate::proofs::Seeing::seen_two), unfolding(rap_grammar_scripts::specs::Modifiers::safety))]
+#[tactic(auto, unfolding(rap_grammar_scripts::specs::Modifiers::safety))]
 fn safety(p: &mut Parser<'_>, is_in_extern: bool) -> Result<bool, NoMemory>
-    ensures seen { IfOk result (λ found. TookIf (state p.old) (state p.new) found) }
     ensures script { IfOk result
         (λ found. (depth : ℕ) → Does depth (script.safety is_in_extern) (of_bool found) (state p.old) (state p.new)) }
 {
@@ -223,7 +214,6 @@ fn safety(p: &mut Parser<'_>, is_in_extern: bool) -> Result<bool, NoMemory>
 /// An ABI, as `extern "C"`, if it comes next. Returns whether it does.
 #[tactic(auto, unfolding(rap_grammar_scripts::specs::Modifiers::opt_abi))]
 fn opt_abi(p: &mut Parser<'_>) -> Result<bool, NoMemory>
-    ensures seen { IfOk result (λ found. TookIf (state p.old) (state p.new) found) }
     ensures script { IfOk result
         (λ found. (depth : ℕ) → Does depth script.opt_abi (of_bool found) (state p.old) (state p.new)) }
 {
@@ -235,9 +225,8 @@ fn opt_abi(p: &mut Parser<'_>) -> Result<bool, NoMemory>
 }
 
 /// `auto` before a trait, and `default` before what may be replaced. Returns whether there was one.
-#[tactic(auto, using(crate::proofs::Seeing::seen_two), unfolding(rap_grammar_scripts::specs::Modifiers::auto_or_default))]
+#[tactic(auto, unfolding(rap_grammar_scripts::specs::Modifiers::auto_or_default))]
 fn auto_or_default(p: &mut Parser<'_>) -> Result<bool, NoMemory>
-    ensures seen { IfOk result (λ found. TookIf (state p.old) (state p.new) found) }
     ensures script { IfOk result
         (λ found. (depth : ℕ) → Does depth script.auto_or_default (of_bool found) (state p.old) (state p.new)) }
 {
@@ -280,7 +269,6 @@ fn is_default_async(p: &Parser<'_>) -> bool
 /// `default` with the modifier after it, if it comes next. Returns whether it does.
 #[tactic(auto, unfolding(rap_grammar_scripts::specs::Modifiers::opt_default))]
 fn opt_default(p: &mut Parser<'_>) -> Result<bool, NoMemory>
-    ensures seen { IfOk result (λ found. TookIf (state p.old) (state p.new) found) }
     ensures script { IfOk result
         (λ found. (depth : ℕ) → Does depth script.opt_default (of_bool found) (state p.old) (state p.new)) }
 {

@@ -168,7 +168,7 @@ pub fn type_item<G: Grammar>(p: &mut Parser<'_>, g: &G, m: Marker) -> Result<(),
 }
 
 /// A type alias, as `type A<T>: B = c where T: D;`.
-#[tactic(auto, using(rap_grammar_frame::proofs::Done::less_left), unfolding(rap_grammar_scripts::specs::Modules::type_alias))]
+#[tactic(auto, using(rap_grammar_facts::proofs::Modules::fewer_alias_bounds, rap_grammar_facts::proofs::Modules::marker_alias_bounds, rap_grammar_facts::proofs::Modules::fewer_aliased_type, rap_grammar_facts::proofs::Modules::marker_aliased_type), unfolding(rap_grammar_scripts::specs::Modules::type_alias))]
 fn type_alias<G: Grammar>(p: &mut Parser<'_>, g: &G, m: Marker) -> Result<(), NoMemory>
     requires within { Within G.valid G.left g.now (state p.old) }
     requires newest { (state p.old).marker ≡ Some m.pos.value }

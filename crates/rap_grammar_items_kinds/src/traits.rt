@@ -81,7 +81,7 @@ fn opt_bounds<G: Grammar>(p: &mut Parser<'_>, g: &G) -> Result<(), NoMemory>
 }
 
 /// An implementation from its keyword on, as `impl A for b {}`.
-#[tactic(auto, using(rap_grammar_frame::proofs::Done::less_left, rap_grammar_facts::proofs::Alone::alone_less_left), unfolding(rap_grammar_scripts::specs::Traits::impl_))]
+#[tactic(auto, using(rap_grammar_facts::proofs::Traits::fewer_impl_params, rap_grammar_facts::proofs::Traits::marker_impl_params, rap_grammar_facts::proofs::Traits::fewer_opt_negative, rap_grammar_facts::proofs::Traits::marker_opt_negative, rap_grammar_facts::proofs::Traits::fewer_impl_types, rap_grammar_facts::proofs::Traits::marker_impl_types, rap_grammar_facts::proofs::Traits::marker_expect_assoc_item_list), unfolding(rap_grammar_scripts::specs::Traits::impl_))]
 pub fn impl_<G: Grammar>(p: &mut Parser<'_>, g: &G, m: Marker) -> Result<(), NoMemory>
     requires within { Within G.valid G.left g.now (state p.old) }
     requires newest { (state p.old).marker ≡ Some m.pos.value }
@@ -190,7 +190,7 @@ fn expect_assoc_item_list<G: Grammar>(p: &mut Parser<'_>, g: &G) -> Result<(), N
 }
 
 /// The items of a trait or an implementation in their braces.
-#[tactic(auto, unfolding(rap_grammar_scripts::specs::Traits::assoc_item_list))]
+#[tactic(auto, using(rap_grammar_facts::proofs::Traits::marker_assoc_items, rap_grammar_facts::proofs::Traits::below_assoc_items), unfolding(rap_grammar_scripts::specs::Traits::assoc_item_list))]
 pub fn assoc_item_list<G: Grammar>(p: &mut Parser<'_>, g: &G) -> Result<(), NoMemory>
     requires within { Within G.valid G.left g.now (state p.old) }
     requires here { next (state p.old) ≡ L_CURLY }

@@ -83,7 +83,7 @@ fn is_global_group_start(p: &Parser<'_>) -> bool
 }
 
 /// A tree of names, as `a::{b, c as d}`, of which one begins.
-#[tactic(auto, using(rap_grammar_frame::proofs::Done::marker_kept, rap_grammar_facts::proofs::UseItem::level_group, rap_grammar_facts::proofs::UseItem::level_after_use_path), unfolding(rap_grammar_scripts::specs::UseItem::use_tree))]
+#[tactic(auto, using(rap_grammar_facts::proofs::Paths::fewer_use_path, rap_grammar_facts::proofs::Paths::marker_use_path, rap_grammar_frame::proofs::Done::marker_kept, rap_grammar_facts::proofs::UseItem::level_group, rap_grammar_facts::proofs::UseItem::level_after_use_path), unfolding(rap_grammar_scripts::specs::UseItem::use_tree))]
 pub fn use_tree<G: Grammar>(p: &mut Parser<'_>, g: &G) -> Result<(), NoMemory>
     requires within { Within G.valid G.left g.now (state p.old) }
     requires here { holds is_use_tree_start (state p.old).rest ≡ true }

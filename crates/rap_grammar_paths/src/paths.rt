@@ -6,12 +6,11 @@ ghost use Rattle.rap_base.specs.TokenSet.{member};
 ghost use Rattle.rap_events.specs.State.{state, IsLast, next};
 ghost use Rattle.rap_events.specs.Composite.{is_at};
 ghost use Rattle.rap_grammar_scripts.specs.First.{is_path_start};
-ghost use Rattle.rap_grammar_frame.specs.Grew.{Within, Grew, Took, Behind};
+ghost use Rattle.rap_grammar_frame.specs.Grew.{Within, Grew, Behind};
 ghost use Rattle.rap_grammar_scripts.specs.Exec.{Does};
 ghost use Rattle.rap_grammar_facts.specs.Alone.{DoesAlone};
 ghost use Rattle.rap_grammar_scripts.specs.Paths as script;
 ghost use Rattle.rap_grammar_scripts.specs.Recovery.{is_segment_recovery};
-ghost use Rattle.rap_grammar_frame.specs.Room.{path_room};
 ghost use Rattle.rap_grammar_scripts.specs.Script.{something};
 ghost use Rattle.rap_grammar_scripts.specs.Test.{holds};
 ghost use Rattle.rap_grammar_scripts.specs.Words.{of_option};
@@ -33,12 +32,9 @@ use rap_grammar_scripts::rule::Rule;
 
 /// A path in an import, as `a::b`, and where an item may be a macro call.
 #[inline(never)]
-#[tactic(auto, using(rap_grammar_facts::proofs::Paths::grew_path), unfolding(rap_grammar_scripts::specs::Paths::use_path))]
+#[tactic(auto, unfolding(rap_grammar_scripts::specs::Paths::use_path))]
 pub fn use_path<G: Grammar>(p: &mut Parser<'_>, g: &G) -> Result<(), NoMemory>
     requires within { Within G.valid G.left g.now (state p.old) }
-    ensures grew { OnOk result (Grew (state p.old) (state p.new) 8) }
-    ensures took { OnOk result
-        (holds is_path_start (state p.old).rest ≡ true → Took (state p.old) (state p.new) path_room) }
     ensures script { OnOk result (Does (G.left g.now) script.use_path something (state p.old) (state p.new)) }
 {
     path(p, g, Mode::Use)?;
@@ -73,7 +69,6 @@ pub fn attr_path<G: Grammar>(p: &mut Parser<'_>, g: &G) -> Result<(), NoMemory>
 pub fn type_path<G: Grammar>(p: &mut Parser<'_>, g: &G) -> Result<(), NoMemory>
     requires within { Within G.valid G.left g.now (state p.old) }
     requires path { holds is_path_start (state p.old).rest ≡ true }
-    ensures took { OnOk result (Took (state p.old) (state p.new) path_room) }
     ensures script { OnOk result (Does (G.left g.now) script.type_path something (state p.old) (state p.new)) }
 {
     path(p, g, Mode::Type)?;
@@ -98,7 +93,6 @@ pub fn sym_path<G: Grammar>(p: &mut Parser<'_>, g: &G) -> Result<(), NoMemory>
 pub fn expr_path<G: Grammar>(p: &mut Parser<'_>, g: &G) -> Result<(), NoMemory>
     requires within { Within G.valid G.left g.now (state p.old) }
     requires path { holds is_path_start (state p.old).rest ≡ true }
-    ensures took { OnOk result (Took (state p.old) (state p.new) path_room) }
     ensures script { OnOk result (Does (G.left g.now) script.expr_path something (state p.old) (state p.new)) }
 {
     path(p, g, Mode::Expr)?;

@@ -4,14 +4,12 @@ ghost use Rattle.rap_base.specs.TokenSet.{member};
 ghost use Rattle.rap_base.specs.TokenKind.{DOT2EQ, DOT2, EOF, AMP, POUND, BUILTIN_KW, L_PAREN, L_CURLY, R_CURLY, UNDERSCORE, BANG, L_BRACK, IDENT, MUT_KW, REF_KW, BOX_KW, CONST_KW};
 ghost use Rattle.rap_events.specs.State.{state, At, IsLast, next, NthAt, ReadsAs};
 ghost use Rattle.rap_grammar_scripts.specs.First.{is_range_pat_end_first, is_path_start, is_pat_top_first, one_of};
-ghost use Rattle.rap_grammar_frame.specs.Grew.{Within, Grew, Behind};
+ghost use Rattle.rap_grammar_frame.specs.Grew.{Within, Behind};
 ghost use Rattle.rap_grammar_scripts.specs.Exec.{Does};
 ghost use Rattle.rap_grammar_facts.specs.Alone.{DoesAlone};
 ghost use Rattle.rap_grammar_scripts.specs.Patterns as script;
 ghost use Rattle.rap_grammar_scripts.specs.Patterns.{ends_range_pat, is_ident_pat_start, is_literal_pat_start, at_field, is_rest_pat, ends_search};
-ghost use Rattle.rap_grammar_scripts.specs.Recovery.{is_pattern_recovery, stops_of};
-ghost use Rattle.rap_grammar_frame.specs.Room.{pattern_room, single_pattern_room, recovery_events};
-ghost use Rattle.rap_grammar_frame.specs.Rules.{PatternUntil};
+ghost use Rattle.rap_grammar_scripts.specs.Recovery.{is_pattern_recovery};
 ghost use Rattle.rap_grammar_scripts.specs.Script.{something, nothing, again};
 ghost use Rattle.rap_grammar_scripts.specs.Test.{holds};
 ghost use Rattle.rap_grammar_scripts.specs.Words.{of_option, of_bool};
@@ -68,10 +66,9 @@ fn recovery_set(in_arm: bool) -> TokenSet
 }
 
 /// A pattern with its alternatives, as `a`, `1 | 2` and `| 1 | 2`.
-#[tactic(auto, unfolding(rap_grammar_scripts::specs::Patterns::pattern_r))]
+#[tactic(auto, using(rap_grammar_facts::proofs::Patterns::fewer_pattern_single_r, rap_grammar_facts::proofs::Patterns::marker_pattern_single_r, rap_grammar_facts::proofs::Patterns::marker_alternatives), unfolding(rap_grammar_scripts::specs::Patterns::pattern_r))]
 pub fn pattern_r<G: Grammar>(p: &mut Parser<'_>, g: &G, in_arm: bool) -> Result<(), NoMemory>
     requires within { Within G.valid G.left g.now (state p.old) }
-    ensures reads { OnOk result (PatternUntil (stops_of in_arm) 8 pattern_room (state p.old) (state p.new)) }
     ensures script { OnOk result (Does (G.left g.now) (script.pattern_r in_arm) something (state p.old) (state p.new)) }
 {
     let m = p.start()?;
@@ -92,10 +89,9 @@ pub fn pattern_r<G: Grammar>(p: &mut Parser<'_>, g: &G, in_arm: bool) -> Result<
 }
 
 /// The alternatives after a first one, as the `| 2 | 3` of `1 | 2 | 3`.
-#[tactic(auto, using(rap_grammar_frame::proofs::Loops::turns), unfolding(rap_grammar_scripts::specs::Patterns::alternatives))]
+#[tactic(auto, using(rap_grammar_frame::proofs::Done::less_left, rap_grammar_frame::proofs::Loops::turns), unfolding(rap_grammar_scripts::specs::Patterns::alternatives))]
 fn alternatives<G: Grammar>(p: &mut Parser<'_>, g: &G, in_arm: bool) -> Result<(), NoMemory>
     requires within { Within G.valid G.left g.now (state p.old) }
-    ensures grew { OnOk result (Grew (state p.old) (state p.new) 0) }
     ensures script { OnOk result
         (Does (G.left g.now) (script.alternatives in_arm) something (state p.old) (state p.new)) }
 {
@@ -111,7 +107,6 @@ fn alternatives<G: Grammar>(p: &mut Parser<'_>, g: &G, in_arm: bool) -> Result<(
 #[inline(never)]
 pub fn pattern_elsewhere<G: Grammar>(p: &mut Parser<'_>, g: &G) -> Result<(), NoMemory>
     requires within { Within G.valid G.left g.now (state p.old) }
-    ensures reads { OnOk result (PatternUntil (stops_of false) 8 pattern_room (state p.old) (state p.new)) }
     ensures script { OnOk result (Does (G.left g.now) (script.pattern_r false) something (state p.old) (state p.new)) }
 {
     pattern_r(p, g, false)
@@ -122,7 +117,6 @@ pub fn pattern_elsewhere<G: Grammar>(p: &mut Parser<'_>, g: &G) -> Result<(), No
 #[tactic(auto, using(rap_grammar_frame::proofs::Done::less_left), unfolding(rap_grammar_scripts::specs::Patterns::pattern_single_r))]
 pub fn pattern_single_r<G: Grammar>(p: &mut Parser<'_>, g: &G, in_arm: bool) -> Result<(), NoMemory>
     requires within { Within G.valid G.left g.now (state p.old) }
-    ensures reads { OnOk result (PatternUntil (stops_of in_arm) recovery_events single_pattern_room (state p.old) (state p.new)) }
     ensures script { OnOk result
         (Does (G.left g.now) (script.pattern_single_r in_arm) something (state p.old) (state p.new)) }
 {
@@ -146,7 +140,6 @@ pub fn pattern_single_r<G: Grammar>(p: &mut Parser<'_>, g: &G, in_arm: bool) -> 
 #[inline(never)]
 pub fn pattern_single_elsewhere<G: Grammar>(p: &mut Parser<'_>, g: &G) -> Result<(), NoMemory>
     requires within { Within G.valid G.left g.now (state p.old) }
-    ensures reads { OnOk result (PatternUntil (stops_of false) recovery_events single_pattern_room (state p.old) (state p.new)) }
     ensures script { OnOk result (Does (G.left g.now) (script.pattern_single_r false) something (state p.old) (state p.new)) }
 {
     pattern_single_r(p, g, false)
@@ -382,7 +375,7 @@ fn literal_pat(p: &mut Parser<'_>) -> Result<CompletedMarker, NoMemory>
 
 /// A path, as `a::B`, one with fields, as `B(x)` and `B { x }`, or a macro call, as `m!(x)`.
 #[inline(never)]
-#[tactic(auto, using(rap_grammar_facts::proofs::Patterns::facts), unfolding(rap_grammar_scripts::specs::Patterns::path_or_macro_pat))]
+#[tactic(auto, using(rap_grammar_facts::proofs::Paths::took_expr_path, rap_grammar_facts::proofs::Patterns::facts), unfolding(rap_grammar_scripts::specs::Patterns::path_or_macro_pat))]
 fn path_or_macro_pat<G: Grammar>(p: &mut Parser<'_>, g: &G) -> Result<CompletedMarker, NoMemory>
     requires within { Within G.valid G.left g.now (state p.old) }
     requires path { holds is_path_start (state p.old).rest ≡ true }

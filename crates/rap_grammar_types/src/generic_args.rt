@@ -4,11 +4,10 @@ ghost use Rattle.rap_base.specs.TokenKind.{LIFETIME_IDENT, COLON, BANG};
 ghost use Rattle.rap_events.specs.State.{state, next, IsLast};
 ghost use Rattle.rap_grammar_scripts.specs.First.{is_const_arg_first, is_generic_arg_first, is_type_first, is_path_name};
 ghost use Rattle.rap_grammar_scripts.specs.GenericArgs as script;
-ghost use Rattle.rap_grammar_frame.specs.Grew.{Within, Took, Behind};
+ghost use Rattle.rap_grammar_frame.specs.Grew.{Within, Behind};
 ghost use Rattle.rap_grammar_scripts.specs.Exec.{Does};
 ghost use Rattle.rap_grammar_facts.specs.Alone.{DoesAlone};
 ghost use Rattle.rap_grammar_scripts.specs.Recovery.{is_generic_arg_recovery};
-ghost use Rattle.rap_grammar_frame.specs.Room.{element_room};
 ghost use Rattle.rap_grammar_scripts.specs.Script.{something};
 ghost use Rattle.rap_grammar_scripts.specs.Test.{holds};
 
@@ -27,11 +26,10 @@ use rap_grammar_generics::generic_params::bounds;
 use rap_grammar_paths::paths::{opt_path_type_args, type_path_for_qualifier};
 
 /// An argument, as `'a`, `1`, `a`, `a = b` and `a: b`.
-#[tactic(auto, using(rap_grammar_facts::proofs::GenericArgs::took_lifetime_arg, rap_grammar_facts::proofs::GenericArgs::took_named_arg, rap_grammar_facts::proofs::ConstArgs::took_const_arg), unfolding(rap_grammar_scripts::specs::GenericArgs::generic_arg))]
+#[tactic(auto, unfolding(rap_grammar_scripts::specs::GenericArgs::generic_arg))]
 pub fn generic_arg<G: Grammar>(p: &mut Parser<'_>, g: &G) -> Result<(), NoMemory>
     requires within { Within G.valid G.left g.now (state p.old) }
     requires first { is_generic_arg_first (next (state p.old)) ≡ true }
-    ensures took { OnOk result (Took (state p.old) (state p.new) element_room) }
     ensures script { OnOk result (Does (G.left g.now) script.generic_arg something (state p.old) (state p.new)) }
 {
     if starts_lifetime_arg(p) {
@@ -71,11 +69,10 @@ fn lifetime_arg(p: &mut Parser<'_>) -> Result<(), NoMemory>
 }
 
 /// A type as an argument, as `&a`.
-#[tactic(auto, unfolding(rap_grammar_scripts::specs::GenericArgs::type_arg))]
+#[tactic(auto, using(rap_grammar_facts::proofs::Types::marker_type_with_bounds_cond), unfolding(rap_grammar_scripts::specs::GenericArgs::type_arg))]
 fn type_arg<G: Grammar>(p: &mut Parser<'_>, g: &G) -> Result<(), NoMemory>
     requires within { Within G.valid G.left g.now (state p.old) }
     requires first { is_type_first (next (state p.old)) ≡ true }
-    ensures took { OnOk result (Took (state p.old) (state p.new) element_room) }
     ensures script { OnOk result (Does (G.left g.now) script.type_arg something (state p.old) (state p.new)) }
 {
     let m = p.start()?;

@@ -4,11 +4,9 @@ ghost use Rattle.rap_base.specs.TokenKind.{DYN_KW, L_PAREN, BANG, STAR, L_BRACK,
 ghost use Rattle.rap_base.specs.NodeKind.{PATH_TYPE};
 ghost use Rattle.rap_events.specs.State.{state, next, ReadsAs, IsLast, NthAt};
 ghost use Rattle.rap_grammar_scripts.specs.First.{starts_weak_dyn, is_weak_dyn_path_first, is_dyn_weak, is_fn_ptr_first, is_path_start};
-ghost use Rattle.rap_grammar_frame.specs.Grew.{Within, Took, Behind};
+ghost use Rattle.rap_grammar_frame.specs.Grew.{Within, Behind};
 ghost use Rattle.rap_grammar_scripts.specs.Exec.{Does};
 ghost use Rattle.rap_grammar_facts.specs.Alone.{DoesAlone};
-ghost use Rattle.rap_grammar_frame.specs.Room.{type_room};
-ghost use Rattle.rap_grammar_frame.specs.Rules.{IsType};
 ghost use Rattle.rap_grammar_scripts.specs.Script.{something};
 ghost use Rattle.rap_grammar_scripts.specs.Test.{holds};
 ghost use Rattle.rap_grammar_scripts.specs.Types as script;
@@ -33,14 +31,13 @@ use rap_grammar_params::params::param_list_fn_ptr;
 use rap_grammar_paths::paths::type_path;
 
 /// A type, as `&a` and `[a; 1]`, with bounds after it, as `a + b`, where they are allowed.
-#[tactic(auto, using(rap_grammar_facts::proofs::Types::reads_never_type, rap_grammar_facts::proofs::Types::reads_infer_type), unfolding(rap_grammar_scripts::specs::Types::type_with_bounds_cond))]
+#[tactic(auto, unfolding(rap_grammar_scripts::specs::Types::type_with_bounds_cond))]
 pub fn type_with_bounds_cond<G: Grammar>(
     p: &mut Parser<'_>,
     g: &G,
     allow_bounds: bool,
 ) -> Result<(), NoMemory>
     requires within { Within G.valid G.left g.now (state p.old) }
-    ensures reads { OnOk result (IsType (state p.old) (state p.new)) }
     ensures script { OnOk result
         (Does (G.left g.now) (script.type_with_bounds_cond allow_bounds) something (state p.old) (state p.new)) }
 {
@@ -64,7 +61,6 @@ pub fn type_with_bounds_cond<G: Grammar>(
 #[tactic(auto, unfolding(rap_grammar_scripts::specs::Types::named_type))]
 fn named_type<G: Grammar>(p: &mut Parser<'_>, g: &G, allow_bounds: bool) -> Result<(), NoMemory>
     requires within { Within G.valid G.left g.now (state p.old) }
-    ensures reads { OnOk result (IsType (state p.old) (state p.new)) }
     ensures script { OnOk result
         (Does (G.left g.now) (script.named_type allow_bounds) something (state p.old) (state p.new)) }
 {
@@ -95,7 +91,6 @@ fn starts_bare_dyn(p: &Parser<'_>) -> bool
 #[inline(never)]
 #[tactic(auto, unfolding(rap_grammar_scripts::specs::Types::missing_type))]
 fn missing_type(p: &mut Parser<'_>) -> Result<(), NoMemory>
-    ensures reads { OnOk result (IsType (state p.old) (state p.new)) }
     ensures script { OnOk result ((depth : ℕ) → Does depth script.missing_type something (state p.old) (state p.new)) }
 {
     if p.current() == T!['{'] {
@@ -479,7 +474,7 @@ fn path_or_macro_type<G: Grammar>(
 
 /// A path as a type, as `a::b`, or a macro call, as `a!()`.
 #[inline(never)]
-#[tactic(auto, using(rap_grammar_facts::proofs::Types::facts), unfolding(rap_grammar_scripts::specs::Types::path_or_macro))]
+#[tactic(auto, using(rap_grammar_facts::proofs::Paths::took_type_path), unfolding(rap_grammar_scripts::specs::Types::path_or_macro))]
 fn path_or_macro<G: Grammar>(p: &mut Parser<'_>, g: &G, allow_bounds: bool) -> Result<(), NoMemory>
     requires within { Within G.valid G.left g.now (state p.old) }
     requires path { holds is_path_start (state p.old).rest ≡ true }
@@ -505,7 +500,7 @@ fn path_or_macro<G: Grammar>(p: &mut Parser<'_>, g: &G, allow_bounds: bool) -> R
 }
 
 /// A path as a type, and bounds after it where they are allowed, as `a + b`.
-#[tactic(auto, using(rap_grammar_facts::proofs::Types::grew_opt_type_bounds_as_dyn_trait_type), unfolding(rap_grammar_scripts::specs::Types::path_type_bounds))]
+#[tactic(auto, unfolding(rap_grammar_scripts::specs::Types::path_type_bounds))]
 pub fn path_type_bounds<G: Grammar>(
     p: &mut Parser<'_>,
     g: &G,
@@ -513,7 +508,6 @@ pub fn path_type_bounds<G: Grammar>(
 ) -> Result<(), NoMemory>
     requires within { Within G.valid G.left g.now (state p.old) }
     requires path { holds is_path_start (state p.old).rest ≡ true }
-    ensures took { OnOk result (Took (state p.old) (state p.new) type_room) }
     ensures script { OnOk result
         (Does (G.left g.now) (script.path_type_bounds allow_bounds) something (state p.old) (state p.new)) }
 {

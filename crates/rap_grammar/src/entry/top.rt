@@ -20,6 +20,7 @@ use rap_grammar_scripts::rule::Rule;
 use std::alloc::Global;
 
 /// A file: `SOURCE_FILE` over the whole input.
+#[tactic(auto, using(rap_grammar_facts::proofs::Entry::grew_source_file))]
 pub fn source_file(alloc: Global, input: &Input) -> Result<Output, NoMemory>
     requires { length input.now ≤ max_tokens }
     ensures tree { IfOk result (IsTreeOver input.now) }
@@ -93,6 +94,7 @@ pub fn meta_item(alloc: Global, input: &Input) -> Result<Output, NoMemory>
 }
 
 /// The statements that a macro expands to: `MACRO_STMTS` over the whole input.
+#[tactic(auto, using(rap_grammar_facts::proofs::Entry::grew_macro_stmts))]
 pub fn macro_stmts(alloc: Global, input: &Input) -> Result<Output, NoMemory>
     requires { length input.now ≤ max_tokens }
     ensures tree { IfOk result (IsTreeOver input.now) }
@@ -107,6 +109,7 @@ pub fn macro_stmts(alloc: Global, input: &Input) -> Result<Output, NoMemory>
 }
 
 /// The items that a macro expands to: `MACRO_ITEMS` over the whole input.
+#[tactic(auto, using(rap_grammar_facts::proofs::Modules::grew_mod_contents))]
 pub fn macro_items(alloc: Global, input: &Input) -> Result<Output, NoMemory>
     requires { length input.now ≤ max_tokens }
     ensures tree { IfOk result (IsTreeOver input.now) }

@@ -1,16 +1,14 @@
 //! Expressions that begin with no operator.
-ghost use Rattle.std.specs.Prelude.{ℕ, ◌≡◌, ◌≢◌, ◌<◌, ◌≤◌, IfOk, ◌⊎◌, OnOk, true, IfSome};
+ghost use Rattle.std.specs.Prelude.{ℕ, ◌≡◌, ◌≢◌, ◌<◌, ◌≤◌, IfOk, OnOk, true};
 ghost use Rattle.rap_base.specs.TokenKind.{EOF, L_PAREN, L_BRACK, L_CURLY, UNDERSCORE, LIFETIME_IDENT, COLON};
-ghost use Rattle.rap_base.specs.NodeKind.{PAREN_EXPR, TUPLE_EXPR, ARRAY_EXPR, UNDERSCORE_EXPR};
-ghost use Rattle.rap_events.specs.Fit.{is_plain};
 ghost use Rattle.rap_events.specs.State.{state, next, NthAt};
 ghost use Rattle.rap_grammar_scripts.specs.Atom as script;
 ghost use Rattle.rap_grammar_scripts.specs.Words.{of_expr, of_like, of_bool};
 ghost use Rattle.rap_grammar_scripts.specs.First.{is_path_start};
-ghost use Rattle.rap_grammar_frame.specs.Grew.{Within, Made, Behind, Grew, Makes};
+ghost use Rattle.rap_grammar_frame.specs.Grew.{Within, Behind};
 ghost use Rattle.rap_grammar_scripts.specs.Exec.{Does};
-ghost use Rattle.rap_grammar_frame.specs.Room.{atom_room};
-ghost use Rattle.rap_grammar_frame.specs.Rules.{Operand};
+ghost use Rattle.rap_grammar_facts.specs.Alone.{DoesAlone};
+ghost use Rattle.rap_grammar_facts.specs.Nodes.{IsAtom, AtomIf};
 ghost use Rattle.rap_grammar_scripts.specs.Script.{something};
 ghost use Rattle.rap_grammar_scripts.specs.Test.{holds};
 
@@ -40,7 +38,7 @@ use rap_grammar_scripts::arguments::{BlockLike, Restrictions};
 /// An expression that begins with no operator, as `1`, `a::b` and `(a)`. Where none begins, the next token stands in an
 /// `ERROR`.
 #[inline(always)]
-#[tactic(auto, unfolding(rap_grammar_scripts::specs::Atom::atom_expr))]
+#[tactic(auto, using(crate::proofs::Atoms::atom_if, rap_grammar_facts::proofs::Builtin::moved_builtin_expr), unfolding(rap_grammar_scripts::specs::Atom::atom_expr))]
 pub(crate) fn atom_expr<G: Grammar>(
     p: &mut Parser<'_>,
     g: &G,
@@ -48,7 +46,7 @@ pub(crate) fn atom_expr<G: Grammar>(
 ) -> Result<Answer, NoMemory>
     requires within { Within G.valid G.left g.now (state p.old) }
     requires more { next (state p.old) ≢ EOF }
-    ensures operand { IfOk result (Operand atom_room (state p.old) (state p.new)) }
+    ensures atom { IfOk result (AtomIf (state p.old) (state p.new)) }
     ensures script { IfOk result
         (λ o. Does (G.left g.now) (script.atom_expr r) (of_expr o) (state p.old) (state p.new)) }
 {
@@ -77,7 +75,7 @@ fn bracketed_expr<G: Grammar>(
 ) -> Result<Answer, NoMemory>
     requires within { Within G.valid G.left g.now (state p.old) }
     requires more { next (state p.old) ≢ EOF }
-    ensures operand { IfOk result (Operand atom_room (state p.old) (state p.new)) }
+    ensures atom { IfOk result (AtomIf (state p.old) (state p.new)) }
     ensures script { IfOk result
         (λ o. Does (G.left g.now) (script.bracketed_expr r) (of_expr o) (state p.old) (state p.new)) }
 {
@@ -108,7 +106,7 @@ fn starts_label(p: &Parser<'_>) -> bool
 fn control_expr<G: Grammar>(p: &mut Parser<'_>, g: &G, r: Restrictions) -> Result<Answer, NoMemory>
     requires within { Within G.valid G.left g.now (state p.old) }
     requires more { next (state p.old) ≢ EOF }
-    ensures operand { IfOk result (Operand atom_room (state p.old) (state p.new)) }
+    ensures atom { IfOk result (AtomIf (state p.old) (state p.new)) }
     ensures script { IfOk result
         (λ o. Does (G.left g.now) (script.control_expr r) (of_expr o) (state p.old) (state p.new)) }
 {
@@ -133,7 +131,7 @@ fn control_expr<G: Grammar>(p: &mut Parser<'_>, g: &G, r: Restrictions) -> Resul
 fn jump_expr<G: Grammar>(p: &mut Parser<'_>, g: &G, r: Restrictions) -> Result<Answer, NoMemory>
     requires within { Within G.valid G.left g.now (state p.old) }
     requires more { next (state p.old) ≢ EOF }
-    ensures operand { IfOk result (Operand atom_room (state p.old) (state p.new)) }
+    ensures atom { IfOk result (AtomIf (state p.old) (state p.new)) }
     ensures script { IfOk result
         (λ o. Does (G.left g.now) (script.jump_expr r) (of_expr o) (state p.old) (state p.new)) }
 {
@@ -158,7 +156,7 @@ fn jump_expr<G: Grammar>(p: &mut Parser<'_>, g: &G, r: Restrictions) -> Result<A
 #[tactic(auto, unfolding(rap_grammar_scripts::specs::Atom::underscore_expr))]
 fn underscore_expr(p: &mut Parser<'_>) -> Result<CompletedMarker, NoMemory>
     requires here { next (state p.old) ≡ UNDERSCORE }
-    ensures made { IfOk result (Makes UNDERSCORE_EXPR atom_room (state p.old) (state p.new)) }
+    ensures atom { IfOk result (IsAtom (state p.old) (state p.new)) }
     ensures script { OnOk result
         ((depth : ℕ) → Does depth script.underscore_expr something (state p.old) (state p.new)) }
 {
@@ -178,7 +176,7 @@ fn starts_record(p: &Parser<'_>, r: Restrictions) -> bool
 
 /// A path, as `a::b`, a record literal, as `a { b: c }`, or a macro call, as `a!(b)`.
 #[inline(never)]
-#[tactic(auto, using(rap_grammar_facts::proofs::Records::took_record_expr_field_list), unfolding(rap_grammar_scripts::specs::Atom::path_expr))]
+#[tactic(auto, using(rap_grammar_frame::proofs::Done::less_left, rap_grammar_frame::proofs::Done::marker_kept, rap_grammar_facts::proofs::Records::level_record_expr_field_list, rap_grammar_facts::proofs::Paths::took_expr_path), unfolding(rap_grammar_scripts::specs::Atom::path_expr))]
 fn path_expr<G: Grammar>(
     p: &mut Parser<'_>,
     g: &G,
@@ -186,7 +184,7 @@ fn path_expr<G: Grammar>(
 ) -> Result<(CompletedMarker, BlockLike), NoMemory>
     requires within { Within G.valid G.left g.now (state p.old) }
     requires path { holds is_path_start (state p.old).rest ≡ true }
-    ensures made { IfOk result (λ e. Made (state p.old) (state p.new) e.0 atom_room × (is_plain e.0.kind.value ≡ true)) }
+    ensures atom { IfOk result (λ e. IsAtom (state p.old) (state p.new) e.0) }
     ensures script { IfOk result
         (λ e. Does (G.left g.now) (script.path_expr r) (of_like e.1) (state p.old) (state p.new)) }
 {
@@ -210,13 +208,11 @@ fn path_expr<G: Grammar>(
 
 /// An expression in parentheses, as `(a)`, or a tuple, as `()`, `(a,)` and `(a, b)`.
 #[inline(never)]
-#[tactic(auto, unfolding(rap_grammar_scripts::specs::Atom::tuple_expr))]
+#[tactic(auto, using(rap_grammar_frame::proofs::Done::less_left, rap_grammar_frame::proofs::Done::marker_kept, rap_grammar_facts::proofs::Atom::level_tuple_elements), unfolding(rap_grammar_scripts::specs::Atom::tuple_expr))]
 fn tuple_expr<G: Grammar>(p: &mut Parser<'_>, g: &G) -> Result<CompletedMarker, NoMemory>
     requires within { Within G.valid G.left g.now (state p.old) }
     requires here { next (state p.old) ≡ L_PAREN }
-    ensures made { IfOk result
-        (λ cm. Made (state p.old) (state p.new) cm atom_room ×
-        ((cm.kind.value ≡ PAREN_EXPR) ⊎ (cm.kind.value ≡ TUPLE_EXPR))) }
+    ensures atom { IfOk result (IsAtom (state p.old) (state p.new)) }
     ensures script { OnOk result (Does (G.left g.now) script.tuple_expr something (state p.old) (state p.new)) }
 {
     let m = p.start()?;
@@ -236,7 +232,6 @@ fn tuple_expr<G: Grammar>(p: &mut Parser<'_>, g: &G) -> Result<CompletedMarker, 
 #[tactic(auto, using(rap_grammar_frame::proofs::Loops::turns), unfolding(rap_grammar_scripts::specs::Atom::tuple_elements))]
 fn tuple_elements<G: Grammar>(p: &mut Parser<'_>, g: &G) -> Result<bool, NoMemory>
     requires behind { Behind G.valid G.left g.now (state p.old) }
-    ensures grew { OnOk result (Grew (state p.old) (state p.new) 8) }
     ensures script { IfOk result
         (λ parens. Does (G.left g.now) script.tuple_elements (of_bool parens) (state p.old) (state p.new)) }
 {
@@ -264,11 +259,11 @@ fn tuple_elements<G: Grammar>(p: &mut Parser<'_>, g: &G) -> Result<bool, NoMemor
 
 /// An array by its elements, as `[a, b]`, or by one and their number, as `[a; n]`.
 #[inline(never)]
-#[tactic(auto, unfolding(rap_grammar_scripts::specs::Atom::array_expr))]
+#[tactic(auto, using(rap_grammar_frame::proofs::Done::less_left, rap_grammar_frame::proofs::Done::marker_kept, rap_grammar_facts::proofs::Atom::level_array_elements), unfolding(rap_grammar_scripts::specs::Atom::array_expr))]
 fn array_expr<G: Grammar>(p: &mut Parser<'_>, g: &G) -> Result<CompletedMarker, NoMemory>
     requires within { Within G.valid G.left g.now (state p.old) }
     requires here { next (state p.old) ≡ L_BRACK }
-    ensures made { IfOk result (Makes ARRAY_EXPR atom_room (state p.old) (state p.new)) }
+    ensures atom { IfOk result (IsAtom (state p.old) (state p.new)) }
     ensures script { OnOk result (Does (G.left g.now) script.array_expr something (state p.old) (state p.new)) }
 {
     let m = p.start()?;
@@ -280,10 +275,9 @@ fn array_expr<G: Grammar>(p: &mut Parser<'_>, g: &G) -> Result<CompletedMarker, 
 }
 
 /// What stands in the brackets of an array.
-#[tactic(auto, using(rap_grammar_frame::proofs::Loops::turns), unfolding(rap_grammar_scripts::specs::Atom::array_elements))]
+#[tactic(auto, using(rap_grammar_facts::proofs::Alone::alone_less_left, rap_grammar_frame::proofs::Loops::turns), unfolding(rap_grammar_scripts::specs::Atom::array_elements))]
 fn array_elements<G: Grammar>(p: &mut Parser<'_>, g: &G) -> Result<(), NoMemory>
     requires behind { Behind G.valid G.left g.now (state p.old) }
-    ensures grew { OnOk result (Grew (state p.old) (state p.new) 9) }
     ensures script { OnOk result (Does (G.left g.now) script.array_elements something (state p.old) (state p.new)) }
 {
     let mut is_first = true;
@@ -309,11 +303,8 @@ fn after_element(
     is_first: bool,
     has_semi: bool,
 ) -> Result<Option<bool>, NoMemory>
-    ensures grew { OnOk result (Grew (state p.old) (state p.new) 1) }
-    ensures on { IfOk result (λ o. IfSome o (λ semi. Grew (state p.old) (state p.new) 0)) }
     ensures script { IfOk result
-        (λ o. (depth : ℕ) → Does depth (script.after_element is_first has_semi) (script.of_semi o) (state p.old)
-        (state p.new)) }
+        (λ o. DoesAlone (script.after_element is_first has_semi) (script.of_semi o) (state p.old) (state p.new)) }
 {
     if is_first && p.at(T![;]) {
         p.bump(T![;])?;

@@ -2,18 +2,18 @@
 //! In the Rust crate: `grammar/expressions.rs`.
 ghost use Rattle.std.specs.Prelude.{◌≡◌, ◌≢◌, ◌+◌, ◌<◌, ◌≤◌, ◌↔◌, ◌∷◌, IfOk, OnOk, true, false, []};
 ghost use Rattle.rap_base.specs.TokenKind.{EOF, AS_KW, MUT_KW, CONST_KW, IDENT, AMP};
-ghost use Rattle.rap_base.specs.NodeKind.{BIN_EXPR, CAST_EXPR, REF_EXPR, PREFIX_EXPR};
+ghost use Rattle.rap_base.specs.NodeKind.{BIN_EXPR, CAST_EXPR};
 ghost use Rattle.rap_events.specs.Power.{power};
 ghost use Rattle.rap_events.specs.State.{state, next, At, IsLast, but_last, last_children};
 ghost use Rattle.rap_events.specs.Fit.{is_plain};
 ghost use Rattle.rap_grammar_frame.specs.Climb.{Climbed, LeftFits, Bound};
 ghost use Rattle.rap_grammar_scripts.specs.Operators as script;
 ghost use Rattle.rap_grammar_scripts.specs.First.{one_of};
-ghost use Rattle.rap_grammar_frame.specs.Grew.{Within, Grew, Wraps, Makes};
+ghost use Rattle.rap_grammar_frame.specs.Grew.{Within};
 ghost use Rattle.rap_grammar_scripts.specs.Exec.{Does};
 ghost use Rattle.rap_grammar_facts.specs.Alone.{DoesAlone};
 ghost use Rattle.rap_grammar_scripts.specs.Operator.{operator_at};
-ghost use Rattle.rap_grammar_frame.specs.Room.{operand_room};
+ghost use Rattle.rap_grammar_facts.specs.Nodes.{IsAtom, Wrapped};
 ghost use Rattle.rap_grammar_scripts.specs.Script.{something};
 
 use rap_base::T;
@@ -87,6 +87,7 @@ fn current_op(p: &Parser<'_>) -> (u8, SyntaxKind, Associativity)
 
 /// The operators of at least the power `bp` after `lhs`, each with its operand on the right.
 #[inline(always)]
+#[tactic(auto, using(rap_grammar_frame::proofs::Done::less_left))]
 pub(crate) fn climb<G: Grammar>(
     p: &mut Parser<'_>,
     g: &G,
@@ -98,7 +99,6 @@ pub(crate) fn climb<G: Grammar>(
     requires last { IsLast (state p.old) lhs lhs.kind.value }
     requires plain { is_plain lhs.kind.value ≡ true }
     requires power { 1 ≤ bp }
-    ensures grew { OnOk result (Grew (state p.old) (state p.new) 0) }
     ensures last { IfOk result (λ cm. IsLast (state p.new) cm cm.kind.value) }
     ensures one { OnOk result (but_last (state p.new).forest ≡ but_last (state p.old).forest) }
     ensures climbed { IfOk result (λ cm. Climbed (state p.new) cm.kind.value bp false) }
@@ -146,7 +146,7 @@ fn bin_expr<G: Grammar>(
     requires no_cast { bp < 12 }
     requires right { (associativity ≡ Associativity.Right) ↔ (bp ≡ 1) }
     requires left_side { (state p.old).messages ≡ 0 → LeftFits lhs.kind.value (last_children (state p.old).forest) bp }
-    ensures wraps { IfOk result (Wraps BIN_EXPR operand_room (state p.old) (state p.new)) }
+    ensures wraps { IfOk result (Wrapped BIN_EXPR (state p.old) (state p.new)) }
     ensures bound { OnOk result ((state p.new).messages ≡ 0 → Bound (state p.new) bp) }
     ensures script { OnOk result (Does (G.left g.now) (script.bin_expr r op) something (state p.old) (state p.new)) }
 {
@@ -173,7 +173,7 @@ fn cast_expr<G: Grammar>(
     requires within { Within G.valid G.left g.now (state p.old) }
     requires last { IsLast (state p.old) lhs lhs.kind.value }
     requires here { At (state p.old) AS_KW }
-    ensures wraps { IfOk result (Wraps CAST_EXPR operand_room (state p.old) (state p.new)) }
+    ensures wraps { IfOk result (Wrapped CAST_EXPR (state p.old) (state p.new)) }
     ensures script { OnOk result (Does (G.left g.now) script.cast_expr something (state p.old) (state p.new)) }
 {
     let m = lhs.precede(p)?;
@@ -234,7 +234,7 @@ pub(crate) fn ref_expr<G: Grammar>(
 ) -> Result<CompletedMarker, NoMemory>
     requires within { Within G.valid G.left g.now (state p.old) }
     requires here { next (state p.old) ≡ AMP }
-    ensures made { IfOk result (Makes REF_EXPR operand_room (state p.old) (state p.new)) }
+    ensures atom { IfOk result (IsAtom (state p.old) (state p.new)) }
     ensures script { OnOk result (Does (G.left g.now) (script.ref_expr r) something (state p.old) (state p.new)) }
 {
     let m = p.start()?;
@@ -261,7 +261,7 @@ pub(crate) fn prefix_expr<G: Grammar>(
 ) -> Result<CompletedMarker, NoMemory>
     requires within { Within G.valid G.left g.now (state p.old) }
     requires more { next (state p.old) ≢ EOF }
-    ensures made { IfOk result (Makes PREFIX_EXPR operand_room (state p.old) (state p.new)) }
+    ensures atom { IfOk result (IsAtom (state p.old) (state p.new)) }
     ensures script { OnOk result (Does (G.left g.now) (script.prefix_expr r) something (state p.old) (state p.new)) }
 {
     let m = p.start()?;

@@ -14,11 +14,7 @@ fields-preserved g c =
     rw (← c.at.ensures, c.if-at.false, ← c.at-else-at.ensures, c.if-at-2.false) refl in
     record {
       newest = search rules;
-      input = search rules;
       left = search rules;
-      count = search rules;
-      messages = search rules;
-      below = search rules;
       script =
           turn c.fields.invariant.script
           (passes (rw float refl)

@@ -1,4 +1,4 @@
-use Rattle.std.proofs.Common.{◌≡◌, ◌≤◌, ◌+◌, ◌*◌, Some, false}
+use Rattle.std.proofs.Common.{◌≡◌, ◌≤◌, Some, false}
 use Rattle.rap_events.specs.State.{state}
 use Rattle.rap_grammar_scripts.specs.Postfix.{after_dot_turn}
 use Rattle.rap_grammar_frame.proofs.Steps.{Turns}
@@ -7,11 +7,7 @@ use Rattle.rap_grammar_expressions_operands.proofs.postfix.after_dot.Given as go
 abbrev pub invariant-fields : goal.invariant-fields
 invariant-fields g l = record {
   newest : (state l.p).marker ≡ Some l.m.pos.value;
-  input : (state l.p).input ≡ (state l.fn.p).input;
   left : (state l.p).left ≤ (state l.fn.p).left;
-  count : (state l.p).count + 256 * (state l.p).left ≤ (state l.fn.p).count + 256 * (state l.fn.p).left;
-  messages : (state l.fn.p).messages ≤ (state l.p).messages;
-  below : (state l.p).below ≡ (state l.fn.p).below;
   script : Turns (g.G.Grammar.left l.g) after_dot_turn false false false false l.fn.p l.p;
 }
 

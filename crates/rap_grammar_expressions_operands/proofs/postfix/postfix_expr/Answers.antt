@@ -17,9 +17,7 @@ postfixes-preserved g c =
     let l = onward_postfix_turn _ _ _ _ s in
     record {
       left = omega (arith, l, c.postfixes.invariant.left);
-      last = search rules;
-      plain = search rules;
-      one = search rules;
+      operand = search rules;
       script = turn c.postfixes.invariant.script s l;
     }
 

@@ -5,7 +5,7 @@ use Rattle.rap_grammar_expressions.proofs.expressions.atom.tuple_elements.Goals 
 
 pub elements-preserved-then-at : goal.elements-preserved-then-at
 elements-preserved-then-at g c = record {
-  grew = search rules;
+  left = search rules;
   script = turn c.elements.invariant.script
       (else_by c.at.ensures c.elements-test.true
       (else_by c.at-in-elements.ensures c.if-not-at.true
@@ -16,7 +16,7 @@ elements-preserved-then-at g c = record {
 
 pub elements-preserved-in_ok-expect : goal.elements-preserved-in_ok-expect
 elements-preserved-in_ok-expect g c = record {
-  grew = search rules;
+  left = search rules;
   script = turn c.elements.invariant.script
       (else_by c.at.ensures c.elements-test.true
       (else_by c.at-in-elements.ensures c.if-not-at.true
@@ -28,7 +28,7 @@ elements-preserved-in_ok-expect g c = record {
 
 pub elements-preserved : goal.elements-preserved
 elements-preserved g c = record {
-  grew = search rules;
+  left = search rules;
   script = turn c.elements.invariant.script
       (else_by c.at.ensures c.elements-test.true
       (else_by c.at-in-elements.ensures c.if-not-at.true

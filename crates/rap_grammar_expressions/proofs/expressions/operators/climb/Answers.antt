@@ -19,7 +19,7 @@ operators-preserved-then-eq g c =
     let some : 0 < c.current_op-op_bp.result.0 = omega (arith, c.if-op_bp-bp.false, c.requires.power) in
     let cast : operator_at (state c.operators.p).rest ≡ AS_KW = search rules in
     record {
-      grew = search rules;
+      left = search rules;
       last = search rules;
       one = search rules;
       least = search rules;
@@ -45,7 +45,7 @@ operators-preserved-then-op_bp-eq2 g c =
     let some : 0 < c.current_op-op_bp.result.0 = omega (arith, c.if-op_bp-bp.false, c.requires.power) in
     let no_cast : operator_at (state c.operators.p).rest ≢ AS_KW = search rules in
     record {
-      grew = search rules;
+      left = search rules;
       last = search rules;
       one = search rules;
       least = search rules;
@@ -70,7 +70,7 @@ operators-preserved g c =
     let some : 0 < c.current_op-op_bp.result.0 = omega (arith, c.if-op_bp-bp.false, c.requires.power) in
     let no_cast : operator_at (state c.operators.p).rest ≢ AS_KW = search rules in
     record {
-      grew = search rules;
+      left = search rules;
       last = search rules;
       one = search rules;
       least = search rules;

@@ -4,13 +4,12 @@ use Rattle.rap_events.specs.State.{state, IsLast, but_last, last_children}
 use Rattle.rap_events.specs.Power.{power, operator}
 use Rattle.rap_grammar_frame.specs.Climb.{Bound}
 use Rattle.rap_grammar_scripts.specs.Operators.{climb_turn}
-use Rattle.rap_grammar_frame.specs.Grew.{Grew}
 use Rattle.rap_grammar_frame.proofs.Steps.{Turns}
 use Rattle.rap_grammar_expressions.proofs.expressions.operators.climb.Given as goal
 
 abbrev pub invariant-operators : goal.invariant-operators
 invariant-operators g l = record {
-  grew : Grew (state l.fn.p) (state l.p) 0;
+  left : (state l.p).left ≤ (state l.fn.p).left;
   last : IsLast (state l.p) l.lhs l.lhs.kind.value;
   one : but_last (state l.p).forest ≡ but_last (state l.fn.p).forest;
   least : (state l.p).messages ≡ 0 → l.lhs.kind.value ≡ BIN_EXPR →
