@@ -1,8 +1,10 @@
 """What a program takes, and the texts that are measured."""
 import os
 import re
+import shutil
 import subprocess
 import sys
+import tempfile
 from typing import NamedTuple, Optional
 
 # What the lexer meets in a text of marks: each character is a token.
@@ -20,16 +22,21 @@ class Run(NamedTuple):
 
 
 def ran(words: list[str], more: Optional[dict[str, str]] = None, out_file: str = '') -> Run:
-    """Runs a program, whose output goes to a file if one is named. More variables go to its environment."""
-    with open(out_file or os.devnull, 'wb') as file:
+    """Runs a program, whose output goes to a file if one is named. More variables go to its environment. Its memory is
+    what Debian's `time` says, which is small: of a program that a script starts, the system counts what the script held
+    when it divided. Where `time` is not there, that counts too."""
+    small = shutil.which('time')
+    with tempfile.NamedTemporaryFile('r') as said, open(out_file or os.devnull, 'wb') as file:
+        measured = [small, '--quiet', '--format=%M', f'--output={said.name}'] if small else []
         to = file.fileno() if out_file else subprocess.PIPE
-        process = subprocess.Popen(words, stdout=to, env={**os.environ, **(more or {})})
+        process = subprocess.Popen([*measured, *words], stdout=to, env={**os.environ, **(more or {})})
         out = process.stdout.read() if process.stdout else b''
         _, status, used = os.wait4(process.pid, 0)
         process.returncode = os.waitstatus_to_exitcode(status)
+        kilobytes = int(said.read()) if small else used.ru_maxrss
     if process.returncode not in (0, 1):
         sys.exit(f'{" ".join(words)} ended with the status {process.returncode}')
-    return Run(out.decode(errors='replace'), 1e3 * (used.ru_utime + used.ru_stime), used.ru_maxrss / 1024)
+    return Run(out.decode(errors='replace'), 1e3 * (used.ru_utime + used.ru_stime), kilobytes / 1024)
 
 
 def number(out: str, pattern: str) -> float:
