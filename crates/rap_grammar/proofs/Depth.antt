@@ -49,7 +49,7 @@ answers_so n m c p q v h l = answers c l h
 pub ends_run : {n : ℕ} {s : Script Rule} {p q : Stand} {v : Outcome} → Ends n s p q v → Runs script_of s (spot_at p) (spot_at q) v
 ends_run {n = n} {s = s} {p = p} {q = q} {v = v} d = runs n s p q v d.run
 
-pub expr_runs : {n : ℕ} {p q : Stand} (e : Option (CompletedMarker × BlockLike)) →
+expr_runs : {n : ℕ} {p q : Stand} (e : Option (CompletedMarker × BlockLike)) →
     Answers n (knot.ExprBp unrestricted 1) p q (of_expr e) →
     Runs script_of expr (spot_at p) (spot_at q) (of_option e)
 unfolding expr
@@ -65,6 +65,10 @@ own_goes {n = n} {c = c} {v = v} {old = old} {new = new} d =
 pub part_goes : {n : ℕ} {c : Rule} {v : Outcome} {old new : State} → Obeys (suc n) c v old new → Goes (part_of c) old new
 unfolding part_of
 part_goes d = record { outcome = something; follows = record { run = ends_run (obeys d gives) } }
+
+pub expr_goes : {n : ℕ} {old new : State} (e : Option (CompletedMarker × BlockLike)) →
+    Obeys n (knot.ExprBp unrestricted 1) (of_expr e) old new → Goes expr old new
+expr_goes e d = record { outcome = of_option e; follows = record { run = expr_runs e d } }
 
 pub goes : {n : ℕ} {s : Script Rule} {v : Outcome} {old new : State} → Does n s v old new → Goes s old new
 goes {v = v} d = record { outcome = v; follows = does_follow d }

@@ -7,16 +7,17 @@ ghost use Rattle.rap_events.specs.Machine.{floor, push};
 ghost use Rattle.rap_events.specs.State.{state, next};
 ghost use Rattle.rap_base.specs.TokenKind.{EOF, ERROR};
 ghost use Rattle.rap_events.specs.Composite.{is_at};
+ghost use Rattle.rap_grammar_frame.specs.Grew.{Grew};
 ghost use Rattle.rap_grammar_frame.specs.Rules.{Pre, Parses};
 ghost use Rattle.rap_grammar_scripts.specs.Entry as script;
 ghost use Rattle.rap_grammar_scripts.specs.Modules as modules_script;
-ghost use Rattle.rap_grammar_scripts.specs.Exec.{Does};
+ghost use Rattle.rap_grammar_scripts.specs.Exec.{Executes};
 ghost use Rattle.rap_grammar_scripts.specs.Knot.{script_of};
-ghost use Rattle.rap_grammar_scripts.specs.Script.{something};
+ghost use Rattle.rap_grammar_scripts.specs.ThroughKnot as through_knot_script;
 ghost use Rattle.rap_grammar.specs.Part.{Goes, part_of};
 ghost use Rattle.rap_grammar.specs.Top.{top_tree, with_leaves};
 
-use crate::knot::{AllRules, run};
+use crate::knot::{AllRules, Brief, run, run_brief};
 use rap_base::T;
 use rap_base::no_memory::NoMemory;
 use rap_base::syntax_kind::SyntaxKind;
@@ -24,7 +25,7 @@ use rap_events::output::{Output, Step, wrap_in_node};
 use rap_events::parser::{Marker, Parser};
 use rap_grammar_attributes::attributes::inner_attrs;
 use rap_grammar_frame::knot::{Answer, Grammar};
-use rap_grammar_scripts::arguments::Semicolon;
+use rap_grammar_scripts::arguments::{Restrictions, Semicolon};
 use rap_grammar_scripts::rule::Rule;
 use std::alloc::Global;
 
@@ -84,6 +85,19 @@ fn run_alone(p: &mut Parser<'_>, rule: Rule) -> Result<Answer, NoMemory>
     Ok(answer)
 }
 
+/// Runs the rule of an expression as an entry of its own.
+fn expr_alone(p: &mut Parser<'_>) -> Result<(), NoMemory>
+    ensures grew { OnOk result (Grew (state p.old) (state p.new) 8) }
+    ensures script { OnOk result (Goes through_knot_script.expr (state p.old) (state p.new)) }
+{
+    let r = Restrictions {
+        forbid_structs: false,
+        prefer_stmt: false,
+    };
+    run_brief(p, Brief::Expr, r, 1)?;
+    Ok(())
+}
+
 /// Whether no token is left.
 #[tactic(auto, using(crate::proofs::TopTree::closing))]
 fn is_at_end(p: &Parser<'_>) -> bool
@@ -100,7 +114,7 @@ fn is_at_end(p: &Parser<'_>) -> bool
 fn macro_stmts(p: &mut Parser<'_>, g: &AllRules) -> Result<(), NoMemory>
     requires { (state p.old).left ≤ g.now.left }
     ensures rest { OnOk result ((state p.new).rest ≡ []) }
-    ensures script { OnOk result (Does (suc g.now.left) script.macro_stmts something (state p.old) (state p.new)) }
+    ensures script { OnOk result (Executes (suc g.now.left) script.macro_stmts p.old p.new) }
 {
     'statements: while !is_at_end(p) {
         let semicolon = Semicolon::Optional;
@@ -114,8 +128,7 @@ fn macro_stmts(p: &mut Parser<'_>, g: &AllRules) -> Result<(), NoMemory>
 fn items(p: &mut Parser<'_>, g: &AllRules) -> Result<(), NoMemory>
     requires { (state p.old).left ≤ g.now.left }
     ensures rest { OnOk result ((state p.new).rest ≡ []) }
-    ensures script { OnOk result
-        (Does (suc g.now.left) (modules_script.items false) something (state p.old) (state p.new)) }
+    ensures script { OnOk result (Executes (suc g.now.left) (modules_script.items false) p.old p.new) }
 {
     'items: while !is_at_end(p) {
         // Only `safe fn` is more than elsewhere in a foreign block, and there is no other reading of it.
@@ -133,8 +146,7 @@ fn items(p: &mut Parser<'_>, g: &AllRules) -> Result<(), NoMemory>
 fn macro_items(p: &mut Parser<'_>, g: &AllRules) -> Result<(), NoMemory>
     requires { (state p.old).left ≤ g.now.left }
     ensures rest { OnOk result ((state p.new).rest ≡ []) }
-    ensures script { OnOk result
-        (Does (suc g.now.left) (modules_script.mod_contents false) something (state p.old) (state p.new)) }
+    ensures script { OnOk result (Executes (suc g.now.left) (modules_script.mod_contents false) p.old p.new) }
 {
     inner_attrs(p, g)?;
     items(p, g)?;
@@ -146,7 +158,7 @@ fn macro_items(p: &mut Parser<'_>, g: &AllRules) -> Result<(), NoMemory>
 fn source_file(p: &mut Parser<'_>, g: &AllRules) -> Result<(), NoMemory>
     requires { (state p.old).left ≤ g.now.left }
     ensures rest { OnOk result ((state p.new).rest ≡ []) }
-    ensures script { OnOk result (Does (suc g.now.left) script.source_file something (state p.old) (state p.new)) }
+    ensures script { OnOk result (Executes (suc g.now.left) script.source_file p.old p.new) }
 {
     p.eat(T![shebang])?;
     p.eat(T![frontmatter])?;

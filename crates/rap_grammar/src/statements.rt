@@ -4,9 +4,8 @@ ghost use Rattle.std.specs.Prelude.{◌≡◌, OnOk, Some};
 ghost use Rattle.rap_events.specs.State.{state, IsLast};
 ghost use Rattle.rap_grammar_scripts.specs.Words.{of_like, is_block};
 ghost use Rattle.rap_grammar_frame.specs.Grew.{Within};
-ghost use Rattle.rap_grammar_facts.specs.Alone.{DoesAlone};
-ghost use Rattle.rap_grammar_scripts.specs.Exec.{Does};
-ghost use Rattle.rap_grammar_scripts.specs.Script.{something};
+ghost use Rattle.rap_grammar_facts.specs.Alone.{ExecutesAlone};
+ghost use Rattle.rap_grammar_scripts.specs.Exec.{Executes};
 ghost use Rattle.rap_grammar_scripts.specs.Statements as script;
 ghost use Rattle.rap_grammar_scripts.specs.Statements.{ends_block};
 ghost use Rattle.rap_grammar_scripts.specs.Test.{holds};
@@ -26,8 +25,8 @@ use rap_grammar_scripts::arguments::{BlockLike, Restrictions, Semicolon};
 /// A statement: `;`, a `let`, an item, or an expression, which at the end of its block is its value.
 #[tactic(auto, using(rap_grammar_facts::proofs::Items::fewer_opt_item), unfolding(rap_grammar_scripts::specs::Statements::stmt))]
 pub fn stmt<G: Grammar>(p: &mut Parser<'_>, g: &G, semicolon: Semicolon) -> Result<(), NoMemory>
-    requires within { Within G.valid G.left g.now (state p.old) }
-    ensures script { OnOk result (Does (G.left g.now) (script.stmt semicolon) something (state p.old) (state p.new)) }
+    requires within { Within G.valid G.left g.now p.old }
+    ensures script { OnOk result (Executes (G.left g.now) (script.stmt semicolon) p.old p.new) }
 {
     if p.eat(T![;])? {
         return Ok(());
@@ -40,8 +39,8 @@ pub fn stmt<G: Grammar>(p: &mut Parser<'_>, g: &G, semicolon: Semicolon) -> Resu
         return Ok(());
     }
     match opt_item(p, g, m, false)? {
-        Ok(()) => Ok(()),
-        Err(m) => {
+        None => Ok(()),
+        Some(m) => {
             expr_as_stmt(p, g, m, semicolon)?;
             Ok(())
         }
@@ -56,10 +55,9 @@ fn expr_as_stmt<G: Grammar>(
     m: Marker,
     semicolon: Semicolon,
 ) -> Result<(), NoMemory>
-    requires within { Within G.valid G.left g.now (state p.old) }
+    requires within { Within G.valid G.left g.now p.old }
     requires newest { (state p.old).marker ≡ Some m.pos.value }
-    ensures script { OnOk result
-        (Does (G.left g.now) (script.expr_as_stmt semicolon) something (state p.old) (state p.new)) }
+    ensures script { OnOk result (Executes (G.left g.now) (script.expr_as_stmt semicolon) p.old p.new) }
 {
     if !is_expr_first(p.current()) {
         p.err_and_bump("expected expression, item or let statement")?;
@@ -87,8 +85,7 @@ fn expr_stmt_end(
 ) -> Result<(), NoMemory>
     requires last { IsLast (state p.old) cm cm.kind.value }
     ensures script { OnOk result
-        (DoesAlone (script.expr_stmt_end semicolon (is_block (of_like block_like))) something (state p.old)
-        (state p.new)) }
+        (ExecutesAlone (script.expr_stmt_end semicolon (is_block (of_like block_like))) p.old p.new) }
 {
     if ends_block(p, semicolon) {
         return Ok(());
@@ -117,8 +114,7 @@ fn expr_semicolon(
     block_like: BlockLike,
 ) -> Result<(), NoMemory>
     ensures script { OnOk result
-        (DoesAlone (script.expr_semicolon semicolon (is_block (of_like block_like))) something (state p.old)
-        (state p.new)) }
+        (ExecutesAlone (script.expr_semicolon semicolon (is_block (of_like block_like))) p.old p.new) }
 {
     match semicolon {
         Semicolon::Required => {

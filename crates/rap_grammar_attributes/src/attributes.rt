@@ -7,11 +7,10 @@ ghost use Rattle.rap_grammar_scripts.specs.Attributes as script;
 ghost use Rattle.rap_grammar_scripts.specs.Attributes.{is_inner_attr_start, doc_comment, starts_attr, at_called_kw, is_value_start};
 ghost use Rattle.rap_grammar_scripts.specs.First.{is_outer_attr_first, is_cfg_predicate_first, one_of};
 ghost use Rattle.rap_grammar_frame.specs.Grew.{Within, Grew, Took, Behind};
-ghost use Rattle.rap_grammar_scripts.specs.Exec.{Does};
-ghost use Rattle.rap_grammar_facts.specs.Alone.{DoesAlone};
+ghost use Rattle.rap_grammar_scripts.specs.Exec.{Executes};
+ghost use Rattle.rap_grammar_facts.specs.Alone.{ExecutesAlone};
 ghost use Rattle.rap_grammar_frame.specs.Room.{list_room, element_room};
 ghost use Rattle.rap_grammar_frame.specs.Rules.{Parsed};
-ghost use Rattle.rap_grammar_scripts.specs.Script.{something};
 ghost use Rattle.rap_grammar_scripts.specs.Test.{holds};
 
 use rap_base::T;
@@ -36,10 +35,10 @@ fn is_inner_attr_start(p: &Parser<'_>) -> bool
 /// Inner attributes, as `#![a]` at the head of a block.
 #[tactic(auto, using(rap_grammar_facts::proofs::Attributes::took_attr))]
 pub fn inner_attrs<G: Grammar>(p: &mut Parser<'_>, g: &G) -> Result<(), NoMemory>
-    requires within { Within G.valid G.left g.now (state p.old) }
+    requires within { Within G.valid G.left g.now p.old }
     ensures grew { OnOk result (Grew (state p.old) (state p.new) 0) }
     ensures stays { OnOk result (holds is_inner_attr_start (state p.old).rest ≡ false → state p.new ≡ state p.old) }
-    ensures script { OnOk result (Does (G.left g.now) script.inner_attrs something (state p.old) (state p.new)) }
+    ensures script { OnOk result (Executes (G.left g.now) script.inner_attrs p.old p.new) }
 {
     'attrs: while is_inner_attr_start(p) {
         attr(p, g, true)?;
@@ -50,11 +49,11 @@ pub fn inner_attrs<G: Grammar>(p: &mut Parser<'_>, g: &G) -> Result<(), NoMemory
 /// Outer attributes, as `#[a]` before a field.
 #[tactic(auto, using(rap_grammar_facts::proofs::Attributes::took_attr))]
 pub fn outer_attrs<G: Grammar>(p: &mut Parser<'_>, g: &G) -> Result<(), NoMemory>
-    requires within { Within G.valid G.left g.now (state p.old) }
+    requires within { Within G.valid G.left g.now p.old }
     ensures grew { OnOk result (Grew (state p.old) (state p.new) 0) }
     ensures took { OnOk result (is_outer_attr_first (next (state p.old)) ≡ true → Took (state p.old) (state p.new) list_room) }
     ensures stays { OnOk result (is_outer_attr_first (next (state p.old)) ≡ false → state p.new ≡ state p.old) }
-    ensures script { OnOk result (Does (G.left g.now) script.outer_attrs something (state p.old) (state p.new)) }
+    ensures script { OnOk result (Executes (G.left g.now) script.outer_attrs p.old p.new) }
 {
     'attrs: while is_outer_attr_first(p.current()) {
         attr(p, g, false)?;
@@ -76,9 +75,9 @@ fn doc_comment(inner: bool) -> SyntaxKind
 /// An attribute, as `#[a]`, and as `#![a]` where it is an inner one.
 #[tactic(auto, using(rap_grammar_facts::proofs::Alone::alone_less_left, rap_grammar_facts::proofs::Alone::alone_marker_kept, rap_grammar_frame::proofs::Done::marker_kept, rap_grammar_facts::proofs::Attributes::level_attr_mark, rap_grammar_facts::proofs::Attributes::level_attr_brackets), unfolding(rap_grammar_scripts::specs::Attributes::attr))]
 fn attr<G: Grammar>(p: &mut Parser<'_>, g: &G, inner: bool) -> Result<(), NoMemory>
-    requires within { Within G.valid G.left g.now (state p.old) }
+    requires within { Within G.valid G.left g.now p.old }
     requires first { holds (starts_attr inner) (state p.old).rest ≡ true }
-    ensures script { OnOk result (Does (G.left g.now) (script.attr inner) something (state p.old) (state p.new)) }
+    ensures script { OnOk result (Executes (G.left g.now) (script.attr inner) p.old p.new) }
 {
     if p.at(doc_comment(inner)) {
         let m = p.start()?;
@@ -98,7 +97,7 @@ fn attr<G: Grammar>(p: &mut Parser<'_>, g: &G, inner: bool) -> Result<(), NoMemo
 fn attr_mark(p: &mut Parser<'_>, inner: bool) -> Result<(), NoMemory>
     requires first { holds (starts_attr inner) (state p.old).rest ≡ true }
     requires no_comment { is_at (doc_comment inner) (state p.old).rest ≡ false }
-    ensures script { OnOk result (DoesAlone (script.attr_mark inner) something (state p.old) (state p.new)) }
+    ensures script { OnOk result (ExecutesAlone (script.attr_mark inner) p.old p.new) }
 {
     p.bump(T![#])?;
     if inner {
@@ -111,8 +110,8 @@ fn attr_mark(p: &mut Parser<'_>, inner: bool) -> Result<(), NoMemory>
 /// The brackets of an attribute with what stands in them, as `[a]` after `#`.
 #[tactic(auto, unfolding(rap_grammar_scripts::specs::Attributes::attr_brackets))]
 fn attr_brackets<G: Grammar>(p: &mut Parser<'_>, g: &G) -> Result<(), NoMemory>
-    requires within { Within G.valid G.left g.now (state p.old) }
-    ensures script { OnOk result (Does (G.left g.now) script.attr_brackets something (state p.old) (state p.new)) }
+    requires within { Within G.valid G.left g.now p.old }
+    ensures script { OnOk result (Executes (G.left g.now) script.attr_brackets p.old p.new) }
 {
     if !p.expect(T!['['])? {
         return Ok(());
@@ -134,9 +133,9 @@ fn at_called_kw(p: &Parser<'_>, kw: SyntaxKind) -> bool
 /// What stands in the brackets of an attribute, as `a = "b"`.
 #[tactic(auto, using(rap_grammar_facts::proofs::Attributes::took_unsafe_meta, rap_grammar_facts::proofs::Attributes::took_cfg_attr_meta, rap_grammar_facts::proofs::Attributes::took_cfg_meta, rap_grammar_facts::proofs::Attributes::grew_path_meta), unfolding(rap_grammar_scripts::specs::Attributes::meta))]
 pub fn meta<G: Grammar>(p: &mut Parser<'_>, g: &G) -> Result<(), NoMemory>
-    requires within { Within G.valid G.left g.now (state p.old) }
+    requires within { Within G.valid G.left g.now p.old }
     ensures grew { OnOk result (Grew (state p.old) (state p.new) 16) }
-    ensures script { OnOk result (Does (G.left g.now) script.meta something (state p.old) (state p.new)) }
+    ensures script { OnOk result (Executes (G.left g.now) script.meta p.old p.new) }
 {
     if p.at(T![unsafe]) {
         unsafe_meta(p, g)?;
@@ -156,9 +155,9 @@ pub fn meta<G: Grammar>(p: &mut Parser<'_>, g: &G) -> Result<(), NoMemory>
 
 /// An unsafe attribute, as `unsafe(a)`.
 fn unsafe_meta<G: Grammar>(p: &mut Parser<'_>, g: &G) -> Result<(), NoMemory>
-    requires within { Within G.valid G.left g.now (state p.old) }
+    requires within { Within G.valid G.left g.now p.old }
     requires here { At (state p.old) UNSAFE_KW }
-    ensures script { OnOk result (Does (G.left g.now) script.unsafe_meta something (state p.old) (state p.new)) }
+    ensures script { OnOk result (Executes (G.left g.now) script.unsafe_meta p.old p.new) }
 {
     let m = p.start()?;
     p.bump(T![unsafe])?;
@@ -171,9 +170,9 @@ fn unsafe_meta<G: Grammar>(p: &mut Parser<'_>, g: &G) -> Result<(), NoMemory>
 
 /// Attributes under a condition, as `cfg_attr(a, b, c = "d")`.
 fn cfg_attr_meta<G: Grammar>(p: &mut Parser<'_>, g: &G) -> Result<(), NoMemory>
-    requires within { Within G.valid G.left g.now (state p.old) }
+    requires within { Within G.valid G.left g.now p.old }
     requires here { holds (at_called_kw CFG_ATTR_KW) (state p.old).rest ≡ true }
-    ensures script { OnOk result (Does (G.left g.now) script.cfg_attr_meta something (state p.old) (state p.new)) }
+    ensures script { OnOk result (Executes (G.left g.now) script.cfg_attr_meta p.old p.new) }
 {
     let m = p.start()?;
     p.bump_remap(T![cfg_attr])?;
@@ -189,8 +188,8 @@ fn cfg_attr_meta<G: Grammar>(p: &mut Parser<'_>, g: &G) -> Result<(), NoMemory>
 /// The attributes after their condition, as `b, c = "d"` in `cfg_attr(a, b, c = "d")`.
 #[tactic(auto, using(rap_grammar_frame::proofs::Loops::turns), unfolding(rap_grammar_scripts::specs::Attributes::cfg_attr_metas))]
 fn cfg_attr_metas<G: Grammar>(p: &mut Parser<'_>, g: &G) -> Result<(), NoMemory>
-    requires behind { Behind G.valid G.left g.now (state p.old) }
-    ensures script { OnOk result (Does (G.left g.now) script.cfg_attr_metas something (state p.old) (state p.new)) }
+    requires behind { Behind G.valid G.left g.now p.old }
+    ensures script { OnOk result (Executes (G.left g.now) script.cfg_attr_metas p.old p.new) }
 {
     'metas: while !p.at(T![')']) && !p.at(SyntaxKind::EOF) {
         g.run(p, Rule::Meta)?;
@@ -203,9 +202,9 @@ fn cfg_attr_metas<G: Grammar>(p: &mut Parser<'_>, g: &G) -> Result<(), NoMemory>
 
 /// An attribute that holds if a condition does, as `cfg(a)`.
 fn cfg_meta<G: Grammar>(p: &mut Parser<'_>, g: &G) -> Result<(), NoMemory>
-    requires within { Within G.valid G.left g.now (state p.old) }
+    requires within { Within G.valid G.left g.now p.old }
     requires here { holds (at_called_kw CFG_KW) (state p.old).rest ≡ true }
-    ensures script { OnOk result (Does (G.left g.now) script.cfg_meta something (state p.old) (state p.new)) }
+    ensures script { OnOk result (Executes (G.left g.now) script.cfg_meta p.old p.new) }
 {
     let m = p.start()?;
     p.bump_remap(T![cfg])?;
@@ -259,9 +258,9 @@ impl Element for CfgOperand {
 /// A condition, as `true`, `a`, `a = "b"` and `any(a, not(b))`.
 #[tactic(auto, using(rap_grammar_facts::proofs::Attributes::grew_cfg_value), unfolding(rap_grammar_scripts::specs::Attributes::cfg_predicate))]
 pub fn cfg_predicate<G: Grammar>(p: &mut Parser<'_>, g: &G) -> Result<(), NoMemory>
-    requires within { Within G.valid G.left g.now (state p.old) }
+    requires within { Within G.valid G.left g.now p.old }
     ensures parsed { OnOk result (Parsed is_cfg_predicate_first 8 element_room (state p.old) (state p.new)) }
-    ensures script { OnOk result (Does (G.left g.now) script.cfg_predicate something (state p.old) (state p.new)) }
+    ensures script { OnOk result (Executes (G.left g.now) script.cfg_predicate p.old p.new) }
 {
     let m = p.start()?;
     if is_bool(p.current()) {
@@ -287,7 +286,7 @@ pub fn cfg_predicate<G: Grammar>(p: &mut Parser<'_>, g: &G) -> Result<(), NoMemo
 /// What a condition's name is compared with, as `"b"` in `a = "b"`.
 #[tactic(auto, unfolding(rap_grammar_scripts::specs::Attributes::cfg_value))]
 fn cfg_value(p: &mut Parser<'_>) -> Result<(), NoMemory>
-    ensures script { OnOk result (DoesAlone script.cfg_value something (state p.old) (state p.new)) }
+    ensures script { OnOk result (ExecutesAlone script.cfg_value p.old p.new) }
 {
     if p.at(T![ident]) {
         p.err_and_bump("expected a string literal")?;
@@ -299,10 +298,10 @@ fn cfg_value(p: &mut Parser<'_>) -> Result<(), NoMemory>
 
 /// The conditions in the brackets of another, as `(a, b)` in `all(a, b)`.
 fn cfg_operands<G: Grammar>(p: &mut Parser<'_>, g: &G) -> Result<(), NoMemory>
-    requires within { Within G.valid G.left g.now (state p.old) }
+    requires within { Within G.valid G.left g.now p.old }
     requires here { At (state p.old) L_PAREN }
     ensures took { OnOk result (Took (state p.old) (state p.new) list_room) }
-    ensures script { OnOk result (Does (G.left g.now) script.cfg_operands something (state p.old) (state p.new)) }
+    ensures script { OnOk result (Executes (G.left g.now) script.cfg_operands p.old p.new) }
 {
     delimited(
         p,
@@ -326,8 +325,8 @@ fn is_value_start(p: &Parser<'_>) -> bool
 /// An attribute by its path, as `a::b`, `a = "b"` and `a(b)`.
 #[tactic(auto, using(rap_grammar_frame::proofs::Done::less_left, rap_grammar_frame::proofs::Done::marker_kept, rap_grammar_facts::proofs::Paths::level_attr_path, rap_grammar_facts::proofs::Attributes::level_attr_value), unfolding(rap_grammar_scripts::specs::Attributes::path_meta))]
 fn path_meta<G: Grammar>(p: &mut Parser<'_>, g: &G) -> Result<(), NoMemory>
-    requires within { Within G.valid G.left g.now (state p.old) }
-    ensures script { OnOk result (Does (G.left g.now) script.path_meta something (state p.old) (state p.new)) }
+    requires within { Within G.valid G.left g.now p.old }
+    ensures script { OnOk result (Executes (G.left g.now) script.path_meta p.old p.new) }
 {
     let m = p.start()?;
     attr_path(p, g)?;
@@ -348,9 +347,9 @@ fn path_meta<G: Grammar>(p: &mut Parser<'_>, g: &G) -> Result<(), NoMemory>
 /// An attribute's value, as `= "b"` in `#[a = "b"]`.
 #[tactic(auto, unfolding(rap_grammar_scripts::specs::Attributes::attr_value))]
 fn attr_value<G: Grammar>(p: &mut Parser<'_>, g: &G) -> Result<(), NoMemory>
-    requires within { Within G.valid G.left g.now (state p.old) }
+    requires within { Within G.valid G.left g.now p.old }
     requires here { At (state p.old) EQ }
-    ensures script { OnOk result (Does (G.left g.now) script.attr_value something (state p.old) (state p.new)) }
+    ensures script { OnOk result (Executes (G.left g.now) script.attr_value p.old p.new) }
 {
     p.bump(T![=])?;
     if expr(p, g)?.is_none() {

@@ -38,7 +38,7 @@ pub fn expr_bp<G: Grammar>(
     r: Restrictions,
     bp: u8,
 ) -> Result<Option<(CompletedMarker, BlockLike)>, NoMemory>
-    requires within { Within G.valid G.left g.now (state p.old) }
+    requires within { Within G.valid G.left g.now p.old }
     requires power { 1 ≤ bp }
     ensures answered { IfOk result (Answered (state p.old) (state p.new) r.prefer_stmt bp) }
     ensures script { IfOk result
@@ -60,7 +60,7 @@ pub fn expr_from<G: Grammar>(
     r: Restrictions,
     bp: u8,
 ) -> Result<Option<(CompletedMarker, BlockLike)>, NoMemory>
-    requires within { Within G.valid G.left g.now (state p.old) }
+    requires within { Within G.valid G.left g.now p.old }
     requires newest { (state p.old).marker ≡ Some m.pos.value }
     requires power { 1 ≤ bp }
     ensures answered { IfOk result (AnsweredFrom (state p.old) (state p.new) r.prefer_stmt bp) }
@@ -109,7 +109,7 @@ fn lhs<G: Grammar>(
     g: &G,
     r: Restrictions,
 ) -> Result<Option<(CompletedMarker, BlockLike)>, NoMemory>
-    requires within { Within G.valid G.left g.now (state p.old) }
+    requires within { Within G.valid G.left g.now p.old }
     requires more { next (state p.old) ≢ EOF }
     ensures atom { IfOk result (AtomIf (state p.old) (state p.new)) }
     ensures script { IfOk result (λ e. Does (G.left g.now) (script.lhs r) (of_expr e) (state p.old) (state p.new)) }

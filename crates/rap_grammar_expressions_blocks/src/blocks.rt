@@ -8,9 +8,8 @@ ghost use Rattle.rap_events.specs.State.{state, last_children, next};
 ghost use Rattle.rap_grammar_scripts.specs.Blocks as script;
 ghost use Rattle.rap_grammar_scripts.specs.Blocks.{starts_let};
 ghost use Rattle.rap_grammar_frame.specs.Grew.{Within, Behind, Took, Grew};
-ghost use Rattle.rap_grammar_scripts.specs.Exec.{Does};
+ghost use Rattle.rap_grammar_scripts.specs.Exec.{Does, Executes};
 ghost use Rattle.rap_grammar_frame.specs.Room.{brackets_room, list_room, recovery_events};
-ghost use Rattle.rap_grammar_scripts.specs.Script.{something};
 ghost use Rattle.rap_grammar_scripts.specs.Test.{holds};
 ghost use Rattle.rap_grammar_scripts.specs.Words.{of_option};
 
@@ -27,13 +26,13 @@ use rap_grammar_scripts::rule::Rule;
 /// A block, as `{ a; b }`. Where none begins, that is reported.
 #[tactic(auto, unfolding(rap_grammar_scripts::specs::Blocks::block_expr))]
 pub fn block_expr<G: Grammar>(p: &mut Parser<'_>, g: &G) -> Result<(), NoMemory>
-    requires within { Within G.valid G.left g.now (state p.old) }
+    requires within { Within G.valid G.left g.now p.old }
     ensures grew { OnOk result (Grew (state p.old) (state p.new) recovery_events) }
     ensures took { OnOk result (next (state p.old) ≡ L_CURLY → Took (state p.old) (state p.new) list_room) }
     ensures one { OnOk result
         (next (state p.old) ≡ L_CURLY →
         (state p.new).forest ≡ node (state p.old).forest BLOCK_EXPR (last_children (state p.new).forest)) }
-    ensures script { OnOk result (Does (G.left g.now) script.block_expr something (state p.old) (state p.new)) }
+    ensures script { OnOk result (Executes (G.left g.now) script.block_expr p.old p.new) }
 {
     if !p.at(T!['{']) {
         p.error("expected a block")?;
@@ -48,10 +47,10 @@ pub fn block_expr<G: Grammar>(p: &mut Parser<'_>, g: &G) -> Result<(), NoMemory>
 /// The statements of a block in their braces.
 #[tactic(auto, unfolding(rap_grammar_scripts::specs::Blocks::stmt_list))]
 pub fn stmt_list<G: Grammar>(p: &mut Parser<'_>, g: &G) -> Result<(), NoMemory>
-    requires within { Within G.valid G.left g.now (state p.old) }
+    requires within { Within G.valid G.left g.now p.old }
     requires here { next (state p.old) ≡ L_CURLY }
     ensures took { OnOk result (Took (state p.old) (state p.new) brackets_room) }
-    ensures script { OnOk result (Does (G.left g.now) script.stmt_list something (state p.old) (state p.new)) }
+    ensures script { OnOk result (Executes (G.left g.now) script.stmt_list p.old p.new) }
 {
     let m = p.start()?;
     p.bump(T!['{'])?;
@@ -64,10 +63,9 @@ pub fn stmt_list<G: Grammar>(p: &mut Parser<'_>, g: &G) -> Result<(), NoMemory>
 /// What stands in the braces of a block.
 #[tactic(auto, unfolding(rap_grammar_scripts::specs::Blocks::expr_block_contents))]
 pub fn expr_block_contents<G: Grammar>(p: &mut Parser<'_>, g: &G) -> Result<(), NoMemory>
-    requires behind { Behind G.valid G.left g.now (state p.old) }
+    requires behind { Behind G.valid G.left g.now p.old }
     ensures grew { OnOk result (Grew (state p.old) (state p.new) 8) }
-    ensures script { OnOk result
-        (Does (G.left g.now) script.expr_block_contents something (state p.old) (state p.new)) }
+    ensures script { OnOk result (Executes (G.left g.now) script.expr_block_contents p.old p.new) }
 {
     inner_attrs(p, g)?;
     statements(p, g)?;
@@ -77,9 +75,9 @@ pub fn expr_block_contents<G: Grammar>(p: &mut Parser<'_>, g: &G) -> Result<(), 
 /// The statements of a block, up to the brace that closes it.
 #[tactic(auto, using(rap_grammar_frame::proofs::Loops::turns), unfolding(rap_grammar_scripts::specs::Blocks::statements))]
 fn statements<G: Grammar>(p: &mut Parser<'_>, g: &G) -> Result<(), NoMemory>
-    requires behind { Behind G.valid G.left g.now (state p.old) }
+    requires behind { Behind G.valid G.left g.now p.old }
     ensures grew { OnOk result (Grew (state p.old) (state p.new) 0) }
-    ensures script { OnOk result (Does (G.left g.now) script.statements something (state p.old) (state p.new)) }
+    ensures script { OnOk result (Executes (G.left g.now) script.statements p.old p.new) }
 {
     'statements: while !p.at(SyntaxKind::EOF) && !p.at(T!['}']) {
         let semicolon = Semicolon::Required;
@@ -91,11 +89,10 @@ fn statements<G: Grammar>(p: &mut Parser<'_>, g: &G) -> Result<(), NoMemory>
 /// A block where none may be, as the `{}` of `S { {} }`.
 #[tactic(auto, unfolding(rap_grammar_scripts::specs::Blocks::error_block))]
 pub fn error_block<G: Grammar>(p: &mut Parser<'_>, g: &G, message: &str) -> Result<(), NoMemory>
-    requires within { Within G.valid G.left g.now (state p.old) }
+    requires within { Within G.valid G.left g.now p.old }
     requires here { next (state p.old) ≡ L_CURLY }
     ensures took { OnOk result (Took (state p.old) (state p.new) list_room) }
-    ensures script { OnOk result
-        (Does (G.left g.now) (script.error_block message.now) something (state p.old) (state p.new)) }
+    ensures script { OnOk result (Executes (G.left g.now) (script.error_block message.now) p.old p.new) }
 {
     let m = p.start()?;
     p.error(message)?;
@@ -116,11 +113,10 @@ pub fn starts_let(p: &Parser<'_>) -> bool
 /// A `let` statement without the node around it, as `let a: b = c else { d };`.
 #[tactic(auto, unfolding(rap_grammar_scripts::specs::Blocks::let_stmt))]
 pub fn let_stmt<G: Grammar>(p: &mut Parser<'_>, g: &G, with_semi: Semicolon) -> Result<(), NoMemory>
-    requires within { Within G.valid G.left g.now (state p.old) }
+    requires within { Within G.valid G.left g.now p.old }
     requires here { holds starts_let (state p.old).rest ≡ true }
     ensures took { OnOk result (Took (state p.old) (state p.new) brackets_room) }
-    ensures script { OnOk result
-        (Does (G.left g.now) (script.let_stmt with_semi) something (state p.old) (state p.new)) }
+    ensures script { OnOk result (Executes (G.left g.now) (script.let_stmt with_semi) p.old p.new) }
 {
     p.eat(T![super])?;
     p.bump(T![let])?;
@@ -135,9 +131,9 @@ pub fn let_stmt<G: Grammar>(p: &mut Parser<'_>, g: &G, with_semi: Semicolon) -> 
 /// The type of a `let` statement, as the `: b` of `let a: b;`, if it has one.
 #[tactic(auto, unfolding(rap_grammar_scripts::specs::Blocks::let_type))]
 fn let_type<G: Grammar>(p: &mut Parser<'_>, g: &G) -> Result<(), NoMemory>
-    requires within { Within G.valid G.left g.now (state p.old) }
+    requires within { Within G.valid G.left g.now p.old }
     ensures grew { OnOk result (Grew (state p.old) (state p.new) 0) }
-    ensures script { OnOk result (Does (G.left g.now) script.let_type something (state p.old) (state p.new)) }
+    ensures script { OnOk result (Executes (G.left g.now) script.let_type p.old p.new) }
 {
     if !p.at(T![:]) {
         return Ok(());
@@ -149,7 +145,7 @@ fn let_type<G: Grammar>(p: &mut Parser<'_>, g: &G) -> Result<(), NoMemory>
 /// The value of a `let` statement, as the `= b` of `let a = b;`, if it has one.
 #[tactic(auto, unfolding(rap_grammar_scripts::specs::Blocks::let_value))]
 fn let_value<G: Grammar>(p: &mut Parser<'_>, g: &G) -> Result<Option<CompletedMarker>, NoMemory>
-    requires within { Within G.valid G.left g.now (state p.old) }
+    requires within { Within G.valid G.left g.now p.old }
     ensures grew { OnOk result (Grew (state p.old) (state p.new) 0) }
     ensures script { IfOk result
         (λ value. Does (G.left g.now) script.let_value (of_option value) (state p.old) (state p.new)) }
@@ -168,10 +164,9 @@ fn let_else<G: Grammar>(
     g: &G,
     value: Option<CompletedMarker>,
 ) -> Result<(), NoMemory>
-    requires within { Within G.valid G.left g.now (state p.old) }
+    requires within { Within G.valid G.left g.now p.old }
     ensures grew { OnOk result (Grew (state p.old) (state p.new) 0) }
-    ensures script { OnOk result
-        (Does (G.left g.now) (script.let_else (of_option value)) something (state p.old) (state p.new)) }
+    ensures script { OnOk result (Executes (G.left g.now) (script.let_else (of_option value)) p.old p.new) }
 {
     if !p.at(T![else]) {
         return Ok(());
@@ -186,7 +181,7 @@ fn value_before_else(p: &mut Parser<'_>, value: Option<CompletedMarker>) -> Resu
     ensures grew { OnOk result (Grew (state p.old) (state p.new) 1) }
     ensures rest { OnOk result ((state p.new).rest ≡ (state p.old).rest) }
     ensures script { OnOk result
-        ((depth : ℕ) → Does depth (script.value_before_else (of_option value)) something (state p.old) (state p.new)) }
+        ((depth : ℕ) → Executes depth (script.value_before_else (of_option value)) p.old p.new) }
 {
     let Some(_) = value else {
         return Ok(());
@@ -201,10 +196,10 @@ fn value_before_else(p: &mut Parser<'_>, value: Option<CompletedMarker>) -> Resu
 /// The `else` of a `let` statement, with its block.
 #[tactic(auto, unfolding(rap_grammar_scripts::specs::Blocks::else_block))]
 fn else_block<G: Grammar>(p: &mut Parser<'_>, g: &G) -> Result<(), NoMemory>
-    requires within { Within G.valid G.left g.now (state p.old) }
+    requires within { Within G.valid G.left g.now p.old }
     requires here { next (state p.old) ≡ ELSE_KW }
     ensures took { OnOk result (Took (state p.old) (state p.new) list_room) }
-    ensures script { OnOk result (Does (G.left g.now) script.else_block something (state p.old) (state p.new)) }
+    ensures script { OnOk result (Executes (G.left g.now) script.else_block p.old p.new) }
 {
     let m = p.start()?;
     p.bump(T![else])?;
@@ -217,8 +212,7 @@ fn else_block<G: Grammar>(p: &mut Parser<'_>, g: &G) -> Result<(), NoMemory>
 #[tactic(auto, unfolding(rap_grammar_scripts::specs::Blocks::let_end))]
 fn let_end(p: &mut Parser<'_>, with_semi: Semicolon) -> Result<(), NoMemory>
     ensures grew { OnOk result (Grew (state p.old) (state p.new) 1) }
-    ensures script { OnOk result
-        ((depth : ℕ) → Does depth (script.let_end with_semi) something (state p.old) (state p.new)) }
+    ensures script { OnOk result ((depth : ℕ) → Executes depth (script.let_end with_semi) p.old p.new) }
 {
     match with_semi {
         Semicolon::Required => {
@@ -236,11 +230,10 @@ fn let_end(p: &mut Parser<'_>, with_semi: Semicolon) -> Result<(), NoMemory>
 /// A `let` statement where none may be.
 #[tactic(auto, unfolding(rap_grammar_scripts::specs::Blocks::error_let_stmt))]
 pub fn error_let_stmt<G: Grammar>(p: &mut Parser<'_>, g: &G, message: &str) -> Result<(), NoMemory>
-    requires within { Within G.valid G.left g.now (state p.old) }
+    requires within { Within G.valid G.left g.now p.old }
     requires here { next (state p.old) ≡ LET_KW }
     ensures took { OnOk result (Took (state p.old) (state p.new) list_room) }
-    ensures script { OnOk result
-        (Does (G.left g.now) (script.error_let_stmt message.now) something (state p.old) (state p.new)) }
+    ensures script { OnOk result (Executes (G.left g.now) (script.error_let_stmt message.now) p.old p.new) }
 {
     let m = p.start()?;
     p.error(message)?;

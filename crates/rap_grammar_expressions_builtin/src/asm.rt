@@ -7,8 +7,8 @@ ghost use Rattle.rap_events.specs.State.{state, next, NthAt};
 ghost use Rattle.rap_grammar_scripts.specs.Asm as script;
 ghost use Rattle.rap_grammar_scripts.specs.ThroughKnot as through_knot_script;
 ghost use Rattle.rap_grammar_frame.specs.Grew.{Behind};
-ghost use Rattle.rap_grammar_scripts.specs.Exec.{Does};
-ghost use Rattle.rap_grammar_facts.specs.Alone.{DoesAlone};
+ghost use Rattle.rap_grammar_scripts.specs.Exec.{Does, Executes};
+ghost use Rattle.rap_grammar_facts.specs.Alone.{DoesAlone, ExecutesAlone};
 ghost use Rattle.rap_grammar_facts.specs.Nodes.{IsOperand};
 ghost use Rattle.rap_grammar_scripts.specs.Script.{something, again};
 ghost use Rattle.rap_grammar_scripts.specs.Test.{holds};
@@ -34,10 +34,10 @@ pub fn parse_asm_expr<G: Grammar>(
     g: &G,
     m: Marker,
 ) -> Result<CompletedMarker, NoMemory>
-    requires behind { Behind G.valid G.left g.now (state p.old) }
+    requires behind { Behind G.valid G.left g.now p.old }
     requires newest { (state p.old).marker ≡ Some m.pos.value }
     ensures operand { IfOk result (IsOperand (state p.new)) }
-    ensures script { OnOk result (Does (G.left g.now) script.parse_asm_expr something (state p.old) (state p.new)) }
+    ensures script { OnOk result (Executes (G.left g.now) script.parse_asm_expr p.old p.new) }
 {
     p.expect(T!['('])?;
     asm_template(p, g)?;
@@ -50,8 +50,8 @@ pub fn parse_asm_expr<G: Grammar>(
 /// What stands after the first template, up to the bracket that closes.
 #[tactic(auto, using(rap_grammar_facts::proofs::Alone::kept, rap_grammar_frame::proofs::Loops::turns), unfolding(rap_grammar_scripts::specs::Asm::asm_pieces))]
 fn asm_pieces<G: Grammar>(p: &mut Parser<'_>, g: &G) -> Result<(), NoMemory>
-    requires behind { Behind G.valid G.left g.now (state p.old) }
-    ensures script { OnOk result (Does (G.left g.now) script.asm_pieces something (state p.old) (state p.new)) }
+    requires behind { Behind G.valid G.left g.now p.old }
+    ensures script { OnOk result (Executes (G.left g.now) script.asm_pieces p.old p.new) }
 {
     let mut allow_templates = true;
     'pieces: while !p.at(SyntaxKind::EOF) && !p.at(T![')']) {
@@ -75,7 +75,7 @@ fn asm_piece<G: Grammar>(
     g: &G,
     allow_templates: bool,
 ) -> Result<Option<bool>, NoMemory>
-    requires behind { Behind G.valid G.left g.now (state p.old) }
+    requires behind { Behind G.valid G.left g.now p.old }
     ensures script { IfOk result
         (λ o. Does (G.left g.now) (script.asm_piece allow_templates) (script.of_allow o) (state p.old) (state p.new)) }
 {
@@ -104,7 +104,7 @@ fn named_operand<G: Grammar>(
     op_n: Marker,
     allow_templates: bool,
 ) -> Result<Option<bool>, NoMemory>
-    requires behind { Behind G.valid G.left g.now (state p.old) }
+    requires behind { Behind G.valid G.left g.now p.old }
     requires newest { (state p.old).marker ≡ Some op_n.pos.value }
     ensures script { IfOk result
         (λ o. Does (G.left g.now) (script.named_operand allow_templates) (script.of_allow o) (state p.old)
@@ -134,7 +134,7 @@ fn no_operand<G: Grammar>(
     g: &G,
     allow_templates: bool,
 ) -> Result<Option<bool>, NoMemory>
-    requires behind { Behind G.valid G.left g.now (state p.old) }
+    requires behind { Behind G.valid G.left g.now p.old }
     ensures script { IfOk result
         (λ o. Does (G.left g.now) (script.no_operand allow_templates) (script.of_allow o) (state p.old) (state p.new)) }
 {
@@ -152,8 +152,8 @@ fn no_operand<G: Grammar>(
 /// A message where no operand stands, with the block or the token that stands there.
 #[tactic(auto, using(rap_grammar_frame::proofs::Steps::by_report), unfolding(rap_grammar_scripts::specs::Asm::missing_operand))]
 fn missing_operand<G: Grammar>(p: &mut Parser<'_>, g: &G) -> Result<(), NoMemory>
-    requires behind { Behind G.valid G.left g.now (state p.old) }
-    ensures script { OnOk result (Does (G.left g.now) script.missing_operand something (state p.old) (state p.new)) }
+    requires behind { Behind G.valid G.left g.now p.old }
+    ensures script { OnOk result (Executes (G.left g.now) script.missing_operand p.old p.new) }
 {
     if p.at(T!['{']) {
         p.error("expected asm operand")?;
@@ -167,8 +167,8 @@ fn missing_operand<G: Grammar>(p: &mut Parser<'_>, g: &G) -> Result<(), NoMemory
 /// A line of the assembly. Anything else is skipped.
 #[tactic(auto, unfolding(rap_grammar_scripts::specs::Asm::asm_template))]
 fn asm_template<G: Grammar>(p: &mut Parser<'_>, g: &G) -> Result<(), NoMemory>
-    requires behind { Behind G.valid G.left g.now (state p.old) }
-    ensures script { OnOk result (Does (G.left g.now) script.asm_template something (state p.old) (state p.new)) }
+    requires behind { Behind G.valid G.left g.now p.old }
+    ensures script { OnOk result (Executes (G.left g.now) script.asm_template p.old p.new) }
 {
     if some_expr(p, g)? {
         return Ok(());
@@ -180,7 +180,7 @@ fn asm_template<G: Grammar>(p: &mut Parser<'_>, g: &G) -> Result<(), NoMemory>
 /// An expression. Returns whether there was one; where there was none, tokens that end the search for one are left.
 #[tactic(auto, unfolding(rap_grammar_scripts::specs::ThroughKnot::expr))]
 fn some_expr<G: Grammar>(p: &mut Parser<'_>, g: &G) -> Result<bool, NoMemory>
-    requires behind { Behind G.valid G.left g.now (state p.old) }
+    requires behind { Behind G.valid G.left g.now p.old }
     ensures script { IfOk result
         (λ found. Does (G.left g.now) through_knot_script.expr (of_bool found) (state p.old) (state p.new)) }
 {
@@ -219,7 +219,7 @@ fn starts_operand_name(p: &Parser<'_>) -> bool
 /// An operand without its name, as `in(reg) x`, if one comes next. Returns whether one does.
 #[tactic(auto, using(rap_grammar_facts::proofs::Alone::kept, rap_grammar_facts::proofs::Asm::level_dir_spec, rap_grammar_facts::proofs::Asm::level_reg_operand, rap_grammar_facts::proofs::Asm::level_asm_sym, crate::proofs::Lines::by_dir), unfolding(rap_grammar_scripts::specs::Asm::asm_operand))]
 fn asm_operand<G: Grammar>(p: &mut Parser<'_>, g: &G) -> Result<bool, NoMemory>
-    requires behind { Behind G.valid G.left g.now (state p.old) }
+    requires behind { Behind G.valid G.left g.now p.old }
     ensures script { IfOk result
         (λ found. Does (G.left g.now) script.asm_operand (of_bool found) (state p.old) (state p.new)) }
 {
@@ -283,9 +283,8 @@ fn dir_spec(p: &mut Parser<'_>) -> Result<Option<bool>, NoMemory>
 /// as in `(reg) x => y`.
 #[tactic(auto, using(rap_grammar_facts::proofs::Asm::facts), unfolding(rap_grammar_scripts::specs::Asm::reg_operand))]
 fn reg_operand<G: Grammar>(p: &mut Parser<'_>, g: &G, goes_both_ways: bool) -> Result<(), NoMemory>
-    requires behind { Behind G.valid G.left g.now (state p.old) }
-    ensures script { OnOk result
-        (Does (G.left g.now) (script.reg_operand goes_both_ways) something (state p.old) (state p.new)) }
+    requires behind { Behind G.valid G.left g.now p.old }
+    ensures script { OnOk result (Executes (G.left g.now) (script.reg_operand goes_both_ways) p.old p.new) }
 {
     parse_reg(p)?;
     let op_expr = p.start()?;
@@ -306,8 +305,8 @@ fn reg_operand<G: Grammar>(p: &mut Parser<'_>, g: &G, goes_both_ways: bool) -> R
 /// A `sym` operand's path, as `a::b` and `(a::b)`.
 #[tactic(auto, unfolding(rap_grammar_scripts::specs::Asm::asm_sym))]
 fn asm_sym<G: Grammar>(p: &mut Parser<'_>, g: &G) -> Result<(), NoMemory>
-    requires behind { Behind G.valid G.left g.now (state p.old) }
-    ensures script { OnOk result (Does (G.left g.now) script.asm_sym something (state p.old) (state p.new)) }
+    requires behind { Behind G.valid G.left g.now p.old }
+    ensures script { OnOk result (Executes (G.left g.now) script.asm_sym p.old p.new) }
 {
     if p.at(T!['(']) {
         p.bump(T!['('])?;
@@ -321,7 +320,7 @@ fn asm_sym<G: Grammar>(p: &mut Parser<'_>, g: &G) -> Result<(), NoMemory>
 
 /// The register of an operand, as `(reg)` and `("eax")`.
 fn parse_reg(p: &mut Parser<'_>) -> Result<(), NoMemory>
-    ensures script { OnOk result (DoesAlone script.parse_reg something (state p.old) (state p.new)) }
+    ensures script { OnOk result (ExecutesAlone script.parse_reg p.old p.new) }
 {
     p.expect(T!['('])?;
     reg_spec(p)?;
@@ -332,7 +331,7 @@ fn parse_reg(p: &mut Parser<'_>) -> Result<(), NoMemory>
 /// The name of a register or of a class of registers.
 #[tactic(auto, unfolding(rap_grammar_scripts::specs::Asm::reg_spec))]
 fn reg_spec(p: &mut Parser<'_>) -> Result<(), NoMemory>
-    ensures script { OnOk result (DoesAlone script.reg_spec something (state p.old) (state p.new)) }
+    ensures script { OnOk result (ExecutesAlone script.reg_spec p.old p.new) }
 {
     if is_path_name(p.current()) {
         let m = p.start()?;
@@ -352,7 +351,7 @@ fn reg_spec(p: &mut Parser<'_>) -> Result<(), NoMemory>
 
 /// The clobbered ABIs, as `("C", "system")`.
 fn parse_clobber_abi(p: &mut Parser<'_>) -> Result<(), NoMemory>
-    ensures script { OnOk result (DoesAlone script.parse_clobber_abi something (state p.old) (state p.new)) }
+    ensures script { OnOk result (ExecutesAlone script.parse_clobber_abi p.old p.new) }
 {
     p.expect(T!['('])?;
     clobber_abis(p)?;
@@ -362,7 +361,7 @@ fn parse_clobber_abi(p: &mut Parser<'_>) -> Result<(), NoMemory>
 /// The names of ABIs, and the bracket that closes.
 #[tactic(auto, using(rap_grammar_facts::proofs::Asm::facts), unfolding(rap_grammar_scripts::specs::Asm::clobber_abis))]
 fn clobber_abis(p: &mut Parser<'_>) -> Result<(), NoMemory>
-    ensures script { OnOk result (DoesAlone script.clobber_abis something (state p.old) (state p.new)) }
+    ensures script { OnOk result (ExecutesAlone script.clobber_abis p.old p.new) }
 {
     'abis: loop {
         let more = next_abi(p)?;
@@ -397,7 +396,7 @@ fn next_abi(p: &mut Parser<'_>) -> Result<bool, NoMemory>
 
 /// The options of the assembly, as `(nomem, nostack)`.
 fn parse_options(p: &mut Parser<'_>) -> Result<(), NoMemory>
-    ensures script { OnOk result (DoesAlone script.parse_options something (state p.old) (state p.new)) }
+    ensures script { OnOk result (ExecutesAlone script.parse_options p.old p.new) }
 {
     p.expect(T!['('])?;
     asm_options(p)?;
@@ -407,7 +406,7 @@ fn parse_options(p: &mut Parser<'_>) -> Result<(), NoMemory>
 /// Options, and the bracket that closes.
 #[tactic(auto, using(rap_grammar_facts::proofs::Asm::facts), unfolding(rap_grammar_scripts::specs::Asm::asm_options))]
 fn asm_options(p: &mut Parser<'_>) -> Result<(), NoMemory>
-    ensures script { OnOk result (DoesAlone script.asm_options something (state p.old) (state p.new)) }
+    ensures script { OnOk result (ExecutesAlone script.asm_options p.old p.new) }
 {
     'options: loop {
         let more = next_option(p)?;

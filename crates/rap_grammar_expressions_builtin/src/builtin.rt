@@ -7,8 +7,8 @@ ghost use Rattle.rap_events.specs.State.{state, next, NthAt};
 ghost use Rattle.rap_grammar_scripts.specs.Builtin as script;
 ghost use Rattle.rap_grammar_scripts.specs.Words.{of_expr, of_bool, of_option, starts_builtin};
 ghost use Rattle.rap_grammar_frame.specs.Grew.{Within, Behind};
-ghost use Rattle.rap_grammar_scripts.specs.Exec.{Does};
-ghost use Rattle.rap_grammar_facts.specs.Alone.{DoesAlone};
+ghost use Rattle.rap_grammar_scripts.specs.Exec.{Does, Executes};
+ghost use Rattle.rap_grammar_facts.specs.Alone.{DoesAlone, ExecutesAlone};
 ghost use Rattle.rap_grammar_facts.specs.Nodes.{IsOperand};
 ghost use Rattle.rap_grammar_scripts.specs.Script.{something, again};
 ghost use Rattle.rap_grammar_scripts.specs.Test.{holds};
@@ -28,7 +28,7 @@ use rap_grammar_scripts::rule::Rule;
 #[inline(never)]
 #[tactic(auto, using(rap_grammar_facts::proofs::Builtin::grew_offset_of, rap_grammar_facts::proofs::Builtin::grew_format_args), unfolding(rap_grammar_scripts::specs::Builtin::builtin_expr))]
 pub fn builtin_expr<G: Grammar>(p: &mut Parser<'_>, g: &G) -> Result<Answer, NoMemory>
-    requires within { Within G.valid G.left g.now (state p.old) }
+    requires within { Within G.valid G.left g.now p.old }
     requires here { holds starts_builtin (state p.old).rest ≡ true }
     ensures operand { IfOk result (λ o. IfSome o (λ e. IsOperand (state p.new) e.0)) }
     ensures script { IfOk result
@@ -61,7 +61,7 @@ fn other_builtin<G: Grammar>(
     g: &G,
     m: Marker,
 ) -> Result<Option<CompletedMarker>, NoMemory>
-    requires behind { Behind G.valid G.left g.now (state p.old) }
+    requires behind { Behind G.valid G.left g.now p.old }
     requires newest { (state p.old).marker ≡ Some m.pos.value }
     ensures operand { IfOk result (λ o. IfSome o (λ cm. IsOperand (state p.new) cm)) }
     ensures script { IfOk result
@@ -104,8 +104,8 @@ fn asm_name(p: &mut Parser<'_>) -> Result<bool, NoMemory>
 
 /// A type and a field in it, as `(a, b.0)` and `(a, (b.0))`.
 fn offset_of<G: Grammar>(p: &mut Parser<'_>, g: &G) -> Result<(), NoMemory>
-    requires behind { Behind G.valid G.left g.now (state p.old) }
-    ensures script { OnOk result (Does (G.left g.now) script.offset_of something (state p.old) (state p.new)) }
+    requires behind { Behind G.valid G.left g.now p.old }
+    ensures script { OnOk result (Executes (G.left g.now) script.offset_of p.old p.new) }
 {
     p.expect(T!['('])?;
     type_(p, g)?;
@@ -125,7 +125,7 @@ fn offset_of<G: Grammar>(p: &mut Parser<'_>, g: &G) -> Result<(), NoMemory>
 /// The fields on the way to the one whose place is asked for, as `b.0`.
 #[tactic(auto, using(rap_grammar_facts::proofs::Builtin::facts), unfolding(rap_grammar_scripts::specs::Builtin::offset_of_fields))]
 fn offset_of_fields(p: &mut Parser<'_>) -> Result<(), NoMemory>
-    ensures script { OnOk result (DoesAlone script.offset_of_fields something (state p.old) (state p.new)) }
+    ensures script { OnOk result (ExecutesAlone script.offset_of_fields p.old p.new) }
 {
     'fields: loop {
         let more = next_field(p)?;
@@ -158,8 +158,8 @@ fn next_field(p: &mut Parser<'_>) -> Result<bool, NoMemory>
 /// A text and its arguments, as `("{} {b}", a, b = 1)`.
 #[tactic(auto, using(rap_grammar_facts::proofs::Builtin::facts))]
 fn format_args<G: Grammar>(p: &mut Parser<'_>, g: &G) -> Result<(), NoMemory>
-    requires behind { Behind G.valid G.left g.now (state p.old) }
-    ensures script { OnOk result (Does (G.left g.now) script.format_args something (state p.old) (state p.new)) }
+    requires behind { Behind G.valid G.left g.now p.old }
+    ensures script { OnOk result (Executes (G.left g.now) script.format_args p.old p.new) }
 {
     p.expect(T!['('])?;
     expr(p, g)?;
@@ -175,8 +175,8 @@ fn format_args<G: Grammar>(p: &mut Parser<'_>, g: &G) -> Result<(), NoMemory>
 /// The arguments of a text. They end where no expression follows.
 #[tactic(auto, using(rap_grammar_facts::proofs::Builtin::facts, rap_grammar_frame::proofs::Loops::turns), unfolding(rap_grammar_scripts::specs::Builtin::format_arguments))]
 fn format_arguments<G: Grammar>(p: &mut Parser<'_>, g: &G) -> Result<(), NoMemory>
-    requires behind { Behind G.valid G.left g.now (state p.old) }
-    ensures script { OnOk result (Does (G.left g.now) script.format_arguments something (state p.old) (state p.new)) }
+    requires behind { Behind G.valid G.left g.now p.old }
+    ensures script { OnOk result (Executes (G.left g.now) script.format_arguments p.old p.new) }
 {
     'arguments: while !p.at(SyntaxKind::EOF) && !p.at(T![')']) {
         let m = p.start()?;
@@ -196,7 +196,7 @@ fn format_arguments<G: Grammar>(p: &mut Parser<'_>, g: &G) -> Result<(), NoMemor
 /// The name of an argument and its `=`, as `b =`, if they come next.
 #[tactic(auto, unfolding(rap_grammar_scripts::specs::Builtin::opt_arg_name))]
 fn opt_arg_name(p: &mut Parser<'_>) -> Result<(), NoMemory>
-    ensures script { OnOk result (DoesAlone script.opt_arg_name something (state p.old) (state p.new)) }
+    ensures script { OnOk result (ExecutesAlone script.opt_arg_name p.old p.new) }
 {
     if !starts_arg_name(p) {
         return Ok(());
@@ -217,8 +217,8 @@ fn starts_arg_name(p: &Parser<'_>) -> bool
 
 /// A condition in its brackets, as `(unix)`.
 fn cfg<G: Grammar>(p: &mut Parser<'_>, g: &G) -> Result<(), NoMemory>
-    requires behind { Behind G.valid G.left g.now (state p.old) }
-    ensures script { OnOk result (Does (G.left g.now) script.cfg something (state p.old) (state p.new)) }
+    requires behind { Behind G.valid G.left g.now p.old }
+    ensures script { OnOk result (Executes (G.left g.now) script.cfg p.old p.new) }
 {
     p.expect(T!['('])?;
     g.run(p, Rule::CfgPredicate)?;

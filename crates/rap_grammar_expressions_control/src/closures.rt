@@ -5,10 +5,9 @@ ghost use Rattle.rap_events.specs.State.{state};
 ghost use Rattle.rap_grammar_scripts.specs.Closures as script;
 ghost use Rattle.rap_grammar_scripts.specs.First.{is_closure};
 ghost use Rattle.rap_grammar_frame.specs.Grew.{Within, Behind};
-ghost use Rattle.rap_grammar_scripts.specs.Exec.{Does};
-ghost use Rattle.rap_grammar_facts.specs.Alone.{DoesAlone};
+ghost use Rattle.rap_grammar_scripts.specs.Exec.{Executes};
+ghost use Rattle.rap_grammar_facts.specs.Alone.{ExecutesAlone};
 ghost use Rattle.rap_grammar_facts.specs.Nodes.{IsOperand};
-ghost use Rattle.rap_grammar_scripts.specs.Script.{something};
 ghost use Rattle.rap_grammar_scripts.specs.Test.{holds};
 
 use rap_base::T;
@@ -25,10 +24,10 @@ use rap_grammar_params::params::param_list_closure;
 #[inline(never)]
 #[tactic(auto, using(rap_grammar_facts::proofs::Closures::facts, rap_grammar_facts::proofs::Params::took_param_list_closure), unfolding(rap_grammar_scripts::specs::Closures::closure_expr))]
 pub fn closure_expr<G: Grammar>(p: &mut Parser<'_>, g: &G) -> Result<CompletedMarker, NoMemory>
-    requires within { Within G.valid G.left g.now (state p.old) }
+    requires within { Within G.valid G.left g.now p.old }
     requires here { holds is_closure (state p.old).rest ≡ true }
     ensures operand { IfOk result (IsOperand (state p.new)) }
-    ensures script { OnOk result (Does (G.left g.now) script.closure_expr something (state p.old) (state p.new)) }
+    ensures script { OnOk result (Executes (G.left g.now) script.closure_expr p.old p.new) }
 {
     let m = p.start()?;
     closure_binder(p, g)?;
@@ -47,8 +46,8 @@ pub fn closure_expr<G: Grammar>(p: &mut Parser<'_>, g: &G) -> Result<CompletedMa
 /// The lifetimes of a closure, as `for<'a>`, if it has some.
 #[tactic(auto, unfolding(rap_grammar_scripts::specs::Closures::closure_binder))]
 fn closure_binder<G: Grammar>(p: &mut Parser<'_>, g: &G) -> Result<(), NoMemory>
-    requires within { Within G.valid G.left g.now (state p.old) }
-    ensures script { OnOk result (Does (G.left g.now) script.closure_binder something (state p.old) (state p.new)) }
+    requires within { Within G.valid G.left g.now p.old }
+    ensures script { OnOk result (Executes (G.left g.now) script.closure_binder p.old p.new) }
 {
     if !p.at(T![for]) {
         return Ok(());
@@ -60,7 +59,7 @@ fn closure_binder<G: Grammar>(p: &mut Parser<'_>, g: &G) -> Result<(), NoMemory>
 /// The keywords before the parameters of a closure, as `static async move`.
 #[tactic(auto, unfolding(rap_grammar_scripts::specs::Closures::closure_keywords))]
 fn closure_keywords(p: &mut Parser<'_>) -> Result<(), NoMemory>
-    ensures script { OnOk result (DoesAlone script.closure_keywords something (state p.old) (state p.new)) }
+    ensures script { OnOk result (ExecutesAlone script.closure_keywords p.old p.new) }
 {
     p.eat(T![const])?;
     p.eat(T![static])?;
@@ -73,8 +72,8 @@ fn closure_keywords(p: &mut Parser<'_>) -> Result<(), NoMemory>
 /// The body of a closure: an expression, or a block if there is a return type.
 #[tactic(auto, using(rap_grammar_facts::proofs::Closures::facts), unfolding(rap_grammar_scripts::specs::Closures::closure_body))]
 fn closure_body<G: Grammar>(p: &mut Parser<'_>, g: &G) -> Result<(), NoMemory>
-    requires behind { Behind G.valid G.left g.now (state p.old) }
-    ensures script { OnOk result (Does (G.left g.now) script.closure_body something (state p.old) (state p.new)) }
+    requires behind { Behind G.valid G.left g.now p.old }
+    ensures script { OnOk result (Executes (G.left g.now) script.closure_body p.old p.new) }
 {
     if opt_ret_type(p, g)? {
         closing_angles(p)?;
@@ -92,7 +91,7 @@ fn closure_body<G: Grammar>(p: &mut Parser<'_>, g: &G) -> Result<(), NoMemory>
 /// Angle brackets that nothing opened, after the type of a closure.
 #[tactic(auto, using(rap_grammar_frame::proofs::Loops::turns, crate::proofs::Skipping::loop_skipped), unfolding(rap_grammar_scripts::specs::Closures::closing_angles))]
 fn closing_angles(p: &mut Parser<'_>) -> Result<(), NoMemory>
-    ensures script { OnOk result (DoesAlone script.closing_angles something (state p.old) (state p.new)) }
+    ensures script { OnOk result (ExecutesAlone script.closing_angles p.old p.new) }
 {
     'angles: while p.at(T![>]) {
         p.err_and_bump("expected a curly brace")?;

@@ -6,10 +6,9 @@ ghost use Rattle.rap_events.specs.State.{state, next, NthAt};
 ghost use Rattle.rap_grammar_scripts.specs.Control as script;
 ghost use Rattle.rap_grammar_scripts.specs.Words.{of_expr};
 ghost use Rattle.rap_grammar_frame.specs.Grew.{Within, Behind};
-ghost use Rattle.rap_grammar_scripts.specs.Exec.{Does};
-ghost use Rattle.rap_grammar_facts.specs.Alone.{DoesAlone};
+ghost use Rattle.rap_grammar_scripts.specs.Exec.{Does, Executes};
+ghost use Rattle.rap_grammar_facts.specs.Alone.{ExecutesAlone};
 ghost use Rattle.rap_grammar_facts.specs.Nodes.{IsOperand, IsAtom, AtomIf};
-ghost use Rattle.rap_grammar_scripts.specs.Script.{something};
 
 use rap_base::T;
 use rap_base::no_memory::NoMemory;
@@ -27,10 +26,10 @@ use rap_grammar_scripts::rule::Rule;
 #[inline(never)]
 #[tactic(auto, using(rap_grammar_facts::proofs::Control::fewer_else_branch, rap_grammar_facts::proofs::Control::marker_else_branch), unfolding(rap_grammar_scripts::specs::Control::if_expr))]
 pub fn if_expr<G: Grammar>(p: &mut Parser<'_>, g: &G) -> Result<CompletedMarker, NoMemory>
-    requires within { Within G.valid G.left g.now (state p.old) }
+    requires within { Within G.valid G.left g.now p.old }
     requires here { next (state p.old) ≡ IF_KW }
     ensures atom { IfOk result (IsAtom (state p.old) (state p.new)) }
-    ensures script { OnOk result (Does (G.left g.now) script.if_expr something (state p.old) (state p.new)) }
+    ensures script { OnOk result (Executes (G.left g.now) script.if_expr p.old p.new) }
 {
     let m = p.start()?;
     p.bump(T![if])?;
@@ -44,8 +43,8 @@ pub fn if_expr<G: Grammar>(p: &mut Parser<'_>, g: &G) -> Result<CompletedMarker,
 /// The `else` of an `if`, if there is one: a block, or another `if`.
 #[tactic(auto, unfolding(rap_grammar_scripts::specs::Control::else_branch))]
 fn else_branch<G: Grammar>(p: &mut Parser<'_>, g: &G) -> Result<(), NoMemory>
-    requires behind { Behind G.valid G.left g.now (state p.old) }
-    ensures script { OnOk result (Does (G.left g.now) script.else_branch something (state p.old) (state p.new)) }
+    requires behind { Behind G.valid G.left g.now p.old }
+    ensures script { OnOk result (Executes (G.left g.now) script.else_branch p.old p.new) }
 {
     if !p.eat(T![else])? {
         return Ok(());
@@ -65,10 +64,10 @@ pub fn let_expr<G: Grammar>(
     g: &G,
     r: Restrictions,
 ) -> Result<CompletedMarker, NoMemory>
-    requires within { Within G.valid G.left g.now (state p.old) }
+    requires within { Within G.valid G.left g.now p.old }
     requires here { next (state p.old) ≡ LET_KW }
     ensures atom { IfOk result (IsAtom (state p.old) (state p.new)) }
-    ensures script { OnOk result (Does (G.left g.now) (script.let_expr r) something (state p.old) (state p.new)) }
+    ensures script { OnOk result (Executes (G.left g.now) (script.let_expr r) p.old p.new) }
 {
     let m = p.start()?;
     p.bump(T![let])?;
@@ -83,10 +82,10 @@ pub fn let_expr<G: Grammar>(
 #[inline(never)]
 #[tactic(auto, unfolding(rap_grammar_scripts::specs::Control::loop_expr))]
 pub fn loop_expr<G: Grammar>(p: &mut Parser<'_>, g: &G) -> Result<CompletedMarker, NoMemory>
-    requires within { Within G.valid G.left g.now (state p.old) }
+    requires within { Within G.valid G.left g.now p.old }
     requires here { next (state p.old) ≡ LOOP_KW }
     ensures atom { IfOk result (IsAtom (state p.old) (state p.new)) }
-    ensures script { OnOk result (Does (G.left g.now) script.loop_expr something (state p.old) (state p.new)) }
+    ensures script { OnOk result (Executes (G.left g.now) script.loop_expr p.old p.new) }
 {
     let m = p.start()?;
     let cm = loop_from(p, g, m)?;
@@ -96,11 +95,11 @@ pub fn loop_expr<G: Grammar>(p: &mut Parser<'_>, g: &G) -> Result<CompletedMarke
 /// The same from the newest marker on.
 #[tactic(auto, unfolding(rap_grammar_scripts::specs::Control::loop_from))]
 fn loop_from<G: Grammar>(p: &mut Parser<'_>, g: &G, m: Marker) -> Result<CompletedMarker, NoMemory>
-    requires within { Within G.valid G.left g.now (state p.old) }
+    requires within { Within G.valid G.left g.now p.old }
     requires newest { (state p.old).marker ≡ Some m.pos.value }
     requires here { next (state p.old) ≡ LOOP_KW }
     ensures atom { IfOk result (IsAtom (state p.old) (state p.new)) }
-    ensures script { OnOk result (Does (G.left g.now) script.loop_from something (state p.old) (state p.new)) }
+    ensures script { OnOk result (Executes (G.left g.now) script.loop_from p.old p.new) }
 {
     p.bump(T![loop])?;
     block_expr(p, g)?;
@@ -112,10 +111,10 @@ fn loop_from<G: Grammar>(p: &mut Parser<'_>, g: &G, m: Marker) -> Result<Complet
 #[inline(never)]
 #[tactic(auto, unfolding(rap_grammar_scripts::specs::Control::while_expr))]
 pub fn while_expr<G: Grammar>(p: &mut Parser<'_>, g: &G) -> Result<CompletedMarker, NoMemory>
-    requires within { Within G.valid G.left g.now (state p.old) }
+    requires within { Within G.valid G.left g.now p.old }
     requires here { next (state p.old) ≡ WHILE_KW }
     ensures atom { IfOk result (IsAtom (state p.old) (state p.new)) }
-    ensures script { OnOk result (Does (G.left g.now) script.while_expr something (state p.old) (state p.new)) }
+    ensures script { OnOk result (Executes (G.left g.now) script.while_expr p.old p.new) }
 {
     let m = p.start()?;
     let cm = while_from(p, g, m)?;
@@ -125,11 +124,11 @@ pub fn while_expr<G: Grammar>(p: &mut Parser<'_>, g: &G) -> Result<CompletedMark
 /// The same from the newest marker on.
 #[tactic(auto, unfolding(rap_grammar_scripts::specs::Control::while_from))]
 fn while_from<G: Grammar>(p: &mut Parser<'_>, g: &G, m: Marker) -> Result<CompletedMarker, NoMemory>
-    requires within { Within G.valid G.left g.now (state p.old) }
+    requires within { Within G.valid G.left g.now p.old }
     requires newest { (state p.old).marker ≡ Some m.pos.value }
     requires here { next (state p.old) ≡ WHILE_KW }
     ensures atom { IfOk result (IsAtom (state p.old) (state p.new)) }
-    ensures script { OnOk result (Does (G.left g.now) script.while_from something (state p.old) (state p.new)) }
+    ensures script { OnOk result (Executes (G.left g.now) script.while_from p.old p.new) }
 {
     p.bump(T![while])?;
     expr_no_struct(p, g)?;
@@ -142,10 +141,10 @@ fn while_from<G: Grammar>(p: &mut Parser<'_>, g: &G, m: Marker) -> Result<Comple
 #[inline(never)]
 #[tactic(auto, unfolding(rap_grammar_scripts::specs::Control::for_expr))]
 pub fn for_expr<G: Grammar>(p: &mut Parser<'_>, g: &G) -> Result<CompletedMarker, NoMemory>
-    requires within { Within G.valid G.left g.now (state p.old) }
+    requires within { Within G.valid G.left g.now p.old }
     requires here { next (state p.old) ≡ FOR_KW }
     ensures atom { IfOk result (IsAtom (state p.old) (state p.new)) }
-    ensures script { OnOk result (Does (G.left g.now) script.for_expr something (state p.old) (state p.new)) }
+    ensures script { OnOk result (Executes (G.left g.now) script.for_expr p.old p.new) }
 {
     let m = p.start()?;
     let cm = for_from(p, g, m)?;
@@ -155,11 +154,11 @@ pub fn for_expr<G: Grammar>(p: &mut Parser<'_>, g: &G) -> Result<CompletedMarker
 /// The same from the newest marker on.
 #[tactic(auto, using(rap_grammar_frame::proofs::Steps::by_report), unfolding(rap_grammar_scripts::specs::Control::for_from))]
 fn for_from<G: Grammar>(p: &mut Parser<'_>, g: &G, m: Marker) -> Result<CompletedMarker, NoMemory>
-    requires within { Within G.valid G.left g.now (state p.old) }
+    requires within { Within G.valid G.left g.now p.old }
     requires newest { (state p.old).marker ≡ Some m.pos.value }
     requires here { next (state p.old) ≡ FOR_KW }
     ensures atom { IfOk result (IsAtom (state p.old) (state p.new)) }
-    ensures script { OnOk result (Does (G.left g.now) script.for_from something (state p.old) (state p.new)) }
+    ensures script { OnOk result (Executes (G.left g.now) script.for_from p.old p.new) }
 {
     p.bump(T![for])?;
     pattern(p, g)?;
@@ -174,7 +173,7 @@ fn for_from<G: Grammar>(p: &mut Parser<'_>, g: &G, m: Marker) -> Result<Complete
 #[inline(never)]
 #[tactic(auto, using(rap_grammar_facts::proofs::Control::facts), unfolding(rap_grammar_scripts::specs::Control::labelled_expr))]
 pub fn labelled_expr<G: Grammar>(p: &mut Parser<'_>, g: &G) -> Result<Answer, NoMemory>
-    requires within { Within G.valid G.left g.now (state p.old) }
+    requires within { Within G.valid G.left g.now p.old }
     requires here { next (state p.old) ≡ LIFETIME_IDENT }
     requires colon { NthAt (state p.old) 1 COLON }
     ensures atom { IfOk result (AtomIf (state p.old) (state p.new)) }
@@ -191,7 +190,7 @@ pub fn labelled_expr<G: Grammar>(p: &mut Parser<'_>, g: &G) -> Result<Answer, No
 fn label(p: &mut Parser<'_>) -> Result<(), NoMemory>
     requires here { next (state p.old) ≡ LIFETIME_IDENT }
     requires colon { NthAt (state p.old) 1 COLON }
-    ensures script { OnOk result (DoesAlone script.label something (state p.old) (state p.new)) }
+    ensures script { OnOk result (ExecutesAlone script.label p.old p.new) }
 {
     let m = p.start()?;
     lifetime(p)?;
@@ -203,7 +202,7 @@ fn label(p: &mut Parser<'_>) -> Result<(), NoMemory>
 /// What the label is of, from the newest marker on.
 #[tactic(auto, unfolding(rap_grammar_scripts::specs::Control::labelled_from))]
 fn labelled_from<G: Grammar>(p: &mut Parser<'_>, g: &G, m: Marker) -> Result<Answer, NoMemory>
-    requires within { Within G.valid G.left g.now (state p.old) }
+    requires within { Within G.valid G.left g.now p.old }
     requires newest { (state p.old).marker ≡ Some m.pos.value }
     ensures operand { IfOk result (λ o. IfSome o (λ e. IsOperand (state p.new) e.0)) }
     ensures script { IfOk result

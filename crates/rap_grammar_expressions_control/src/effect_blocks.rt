@@ -8,10 +8,9 @@ ghost use Rattle.rap_grammar_scripts.specs.EffectBlocks.{is_effect_block};
 ghost use Rattle.rap_grammar_scripts.specs.Words.{of_expr};
 ghost use Rattle.rap_grammar_scripts.specs.First.{is_closure};
 ghost use Rattle.rap_grammar_frame.specs.Grew.{Within};
-ghost use Rattle.rap_grammar_scripts.specs.Exec.{Does};
-ghost use Rattle.rap_grammar_facts.specs.Alone.{DoesAlone};
+ghost use Rattle.rap_grammar_scripts.specs.Exec.{Does, Executes};
+ghost use Rattle.rap_grammar_facts.specs.Alone.{ExecutesAlone};
 ghost use Rattle.rap_grammar_facts.specs.Nodes.{IsAtom, AtomIf};
-ghost use Rattle.rap_grammar_scripts.specs.Script.{something};
 ghost use Rattle.rap_grammar_scripts.specs.Test.{holds};
 
 use crate::closures::closure_expr;
@@ -29,10 +28,10 @@ use rap_grammar_scripts::arguments::BlockLike;
 #[inline(never)]
 #[tactic(auto, unfolding(rap_grammar_scripts::specs::EffectBlocks::plain_block))]
 pub fn plain_block<G: Grammar>(p: &mut Parser<'_>, g: &G) -> Result<CompletedMarker, NoMemory>
-    requires within { Within G.valid G.left g.now (state p.old) }
+    requires within { Within G.valid G.left g.now p.old }
     requires here { next (state p.old) ≡ L_CURLY }
     ensures atom { IfOk result (IsAtom (state p.old) (state p.new)) }
-    ensures script { OnOk result (Does (G.left g.now) script.plain_block something (state p.old) (state p.new)) }
+    ensures script { OnOk result (Executes (G.left g.now) script.plain_block p.old p.new) }
 {
     let m = p.start()?;
     stmt_list(p, g)?;
@@ -44,7 +43,7 @@ pub fn plain_block<G: Grammar>(p: &mut Parser<'_>, g: &G) -> Result<CompletedMar
 /// `ERROR`.
 #[tactic(auto, using(rap_grammar_facts::proofs::Closures::moved_closure_expr), unfolding(rap_grammar_scripts::specs::EffectBlocks::effect_expr))]
 pub fn effect_expr<G: Grammar>(p: &mut Parser<'_>, g: &G) -> Result<Answer, NoMemory>
-    requires within { Within G.valid G.left g.now (state p.old) }
+    requires within { Within G.valid G.left g.now p.old }
     requires more { next (state p.old) ≢ EOF }
     ensures atom { IfOk result (AtomIf (state p.old) (state p.new)) }
     ensures script { IfOk result (λ o. Does (G.left g.now) script.effect_expr (of_expr o) (state p.old) (state p.new)) }
@@ -101,7 +100,7 @@ fn is_effect_block(p: &Parser<'_>) -> bool
 fn effects(p: &mut Parser<'_>) -> Result<(), NoMemory>
     requires starts { holds is_effect_block (state p.old).rest ≡ true }
     ensures here { OnOk result (next (state p.new) ≡ L_CURLY) }
-    ensures script { OnOk result (DoesAlone script.effects something (state p.old) (state p.new)) }
+    ensures script { OnOk result (ExecutesAlone script.effects p.old p.new) }
 {
     p.bump_any()?;
     p.eat(T![gen])?;
@@ -113,10 +112,10 @@ fn effects(p: &mut Parser<'_>) -> Result<(), NoMemory>
 #[inline(never)]
 #[tactic(auto, using(rap_grammar_facts::proofs::EffectBlocks::facts), unfolding(rap_grammar_scripts::specs::EffectBlocks::effect_block))]
 fn effect_block<G: Grammar>(p: &mut Parser<'_>, g: &G) -> Result<CompletedMarker, NoMemory>
-    requires within { Within G.valid G.left g.now (state p.old) }
+    requires within { Within G.valid G.left g.now p.old }
     requires starts { holds is_effect_block (state p.old).rest ≡ true }
     ensures atom { IfOk result (IsAtom (state p.old) (state p.new)) }
-    ensures script { OnOk result (Does (G.left g.now) script.effect_block something (state p.old) (state p.new)) }
+    ensures script { OnOk result (Executes (G.left g.now) script.effect_block p.old p.new) }
 {
     let m = p.start()?;
     effects(p)?;
@@ -128,9 +127,9 @@ fn effect_block<G: Grammar>(p: &mut Parser<'_>, g: &G) -> Result<CompletedMarker
 /// A `try`, and the type of the block after it, as `try bikeshed a`.
 #[tactic(auto, unfolding(rap_grammar_scripts::specs::EffectBlocks::try_modifier))]
 fn try_modifier<G: Grammar>(p: &mut Parser<'_>, g: &G) -> Result<(), NoMemory>
-    requires within { Within G.valid G.left g.now (state p.old) }
+    requires within { Within G.valid G.left g.now p.old }
     requires here { next (state p.old) ≡ TRY_KW }
-    ensures script { OnOk result (Does (G.left g.now) script.try_modifier something (state p.old) (state p.new)) }
+    ensures script { OnOk result (Executes (G.left g.now) script.try_modifier p.old p.new) }
 {
     let m = p.start()?;
     p.bump(T![try])?;
@@ -147,10 +146,10 @@ fn try_modifier<G: Grammar>(p: &mut Parser<'_>, g: &G) -> Result<(), NoMemory>
 #[inline(never)]
 #[tactic(auto, using(rap_grammar_facts::proofs::EffectBlocks::facts), unfolding(rap_grammar_scripts::specs::EffectBlocks::try_block_expr))]
 fn try_block_expr<G: Grammar>(p: &mut Parser<'_>, g: &G) -> Result<CompletedMarker, NoMemory>
-    requires within { Within G.valid G.left g.now (state p.old) }
+    requires within { Within G.valid G.left g.now p.old }
     requires here { next (state p.old) ≡ TRY_KW }
     ensures atom { IfOk result (IsAtom (state p.old) (state p.new)) }
-    ensures script { OnOk result (Does (G.left g.now) script.try_block_expr something (state p.old) (state p.new)) }
+    ensures script { OnOk result (Executes (G.left g.now) script.try_block_expr p.old p.new) }
 {
     let m = p.start()?;
     try_modifier(p, g)?;

@@ -6,10 +6,9 @@ ghost use Rattle.rap_events.specs.State.{state, next};
 ghost use Rattle.rap_grammar_scripts.specs.Jumps as script;
 ghost use Rattle.rap_grammar_scripts.specs.Atom as atom_script;
 ghost use Rattle.rap_grammar_frame.specs.Grew.{Within, Behind};
-ghost use Rattle.rap_grammar_scripts.specs.Exec.{Does};
-ghost use Rattle.rap_grammar_facts.specs.Alone.{DoesAlone};
+ghost use Rattle.rap_grammar_scripts.specs.Exec.{Executes};
+ghost use Rattle.rap_grammar_facts.specs.Alone.{ExecutesAlone};
 ghost use Rattle.rap_grammar_facts.specs.Nodes.{IsAtom};
-ghost use Rattle.rap_grammar_scripts.specs.Script.{something};
 ghost use Rattle.rap_grammar_scripts.specs.Test.{holds};
 
 use rap_base::T;
@@ -33,9 +32,8 @@ fn has_operand(p: &Parser<'_>, before_block: bool) -> bool
 /// An operand that may be missing.
 #[tactic(auto, unfolding(rap_grammar_scripts::specs::Jumps::opt_expr))]
 fn opt_expr<G: Grammar>(p: &mut Parser<'_>, g: &G, before_block: bool) -> Result<(), NoMemory>
-    requires behind { Behind G.valid G.left g.now (state p.old) }
-    ensures script { OnOk result
-        (Does (G.left g.now) (script.opt_expr before_block) something (state p.old) (state p.new)) }
+    requires behind { Behind G.valid G.left g.now p.old }
+    ensures script { OnOk result (Executes (G.left g.now) (script.opt_expr before_block) p.old p.new) }
 {
     if !has_operand(p, before_block) {
         return Ok(());
@@ -47,7 +45,7 @@ fn opt_expr<G: Grammar>(p: &mut Parser<'_>, g: &G, before_block: bool) -> Result
 /// The label of the loop or block, if there is one.
 #[tactic(auto, unfolding(rap_grammar_scripts::specs::Jumps::opt_lifetime))]
 fn opt_lifetime(p: &mut Parser<'_>) -> Result<(), NoMemory>
-    ensures script { OnOk result (DoesAlone script.opt_lifetime something (state p.old) (state p.new)) }
+    ensures script { OnOk result (ExecutesAlone script.opt_lifetime p.old p.new) }
 {
     if !p.at(T![lifetime_ident]) {
         return Ok(());
@@ -60,10 +58,10 @@ fn opt_lifetime(p: &mut Parser<'_>) -> Result<(), NoMemory>
 #[inline(never)]
 #[tactic(auto, using(rap_grammar_frame::proofs::Done::less_left, rap_grammar_frame::proofs::Done::marker_kept, rap_grammar_facts::proofs::Jumps::level_opt_expr), unfolding(rap_grammar_scripts::specs::Jumps::return_expr))]
 pub fn return_expr<G: Grammar>(p: &mut Parser<'_>, g: &G) -> Result<CompletedMarker, NoMemory>
-    requires within { Within G.valid G.left g.now (state p.old) }
+    requires within { Within G.valid G.left g.now p.old }
     requires here { next (state p.old) ≡ RETURN_KW }
     ensures atom { IfOk result (IsAtom (state p.old) (state p.new)) }
-    ensures script { OnOk result (Does (G.left g.now) script.return_expr something (state p.old) (state p.new)) }
+    ensures script { OnOk result (Executes (G.left g.now) script.return_expr p.old p.new) }
 {
     let m = p.start()?;
     p.bump(T![return])?;
@@ -76,10 +74,10 @@ pub fn return_expr<G: Grammar>(p: &mut Parser<'_>, g: &G) -> Result<CompletedMar
 #[inline(never)]
 #[tactic(auto, unfolding(rap_grammar_scripts::specs::Jumps::become_expr))]
 pub fn become_expr<G: Grammar>(p: &mut Parser<'_>, g: &G) -> Result<CompletedMarker, NoMemory>
-    requires within { Within G.valid G.left g.now (state p.old) }
+    requires within { Within G.valid G.left g.now p.old }
     requires here { next (state p.old) ≡ BECOME_KW }
     ensures atom { IfOk result (IsAtom (state p.old) (state p.new)) }
-    ensures script { OnOk result (Does (G.left g.now) script.become_expr something (state p.old) (state p.new)) }
+    ensures script { OnOk result (Executes (G.left g.now) script.become_expr p.old p.new) }
 {
     let m = p.start()?;
     p.bump(T![become])?;
@@ -92,10 +90,10 @@ pub fn become_expr<G: Grammar>(p: &mut Parser<'_>, g: &G) -> Result<CompletedMar
 #[inline(never)]
 #[tactic(auto, using(rap_grammar_frame::proofs::Done::less_left, rap_grammar_frame::proofs::Done::marker_kept, rap_grammar_facts::proofs::Jumps::level_opt_expr), unfolding(rap_grammar_scripts::specs::Jumps::yield_expr))]
 pub fn yield_expr<G: Grammar>(p: &mut Parser<'_>, g: &G) -> Result<CompletedMarker, NoMemory>
-    requires within { Within G.valid G.left g.now (state p.old) }
+    requires within { Within G.valid G.left g.now p.old }
     requires here { next (state p.old) ≡ YIELD_KW }
     ensures atom { IfOk result (IsAtom (state p.old) (state p.new)) }
-    ensures script { OnOk result (Does (G.left g.now) script.yield_expr something (state p.old) (state p.new)) }
+    ensures script { OnOk result (Executes (G.left g.now) script.yield_expr p.old p.new) }
 {
     let m = p.start()?;
     p.bump(T![yield])?;
@@ -116,10 +114,10 @@ pub fn starts_yeet(p: &Parser<'_>) -> bool
 #[inline(never)]
 #[tactic(auto, using(rap_grammar_facts::proofs::Jumps::fewer_opt_expr, rap_grammar_facts::proofs::Jumps::marker_opt_expr), unfolding(rap_grammar_scripts::specs::Jumps::yeet_expr))]
 pub fn yeet_expr<G: Grammar>(p: &mut Parser<'_>, g: &G) -> Result<CompletedMarker, NoMemory>
-    requires within { Within G.valid G.left g.now (state p.old) }
+    requires within { Within G.valid G.left g.now p.old }
     requires here { next (state p.old) ≡ DO_KW }
     ensures atom { IfOk result (IsAtom (state p.old) (state p.new)) }
-    ensures script { OnOk result (Does (G.left g.now) script.yeet_expr something (state p.old) (state p.new)) }
+    ensures script { OnOk result (Executes (G.left g.now) script.yeet_expr p.old p.new) }
 {
     let m = p.start()?;
     p.bump(T![do])?;
@@ -135,7 +133,7 @@ pub fn yeet_expr<G: Grammar>(p: &mut Parser<'_>, g: &G) -> Result<CompletedMarke
 pub fn continue_expr(p: &mut Parser<'_>) -> Result<CompletedMarker, NoMemory>
     requires here { next (state p.old) ≡ CONTINUE_KW }
     ensures atom { IfOk result (IsAtom (state p.old) (state p.new)) }
-    ensures script { OnOk result ((depth : ℕ) → Does depth script.continue_expr something (state p.old) (state p.new)) }
+    ensures script { OnOk result ((depth : ℕ) → Executes depth script.continue_expr p.old p.new) }
 {
     let m = p.start()?;
     p.bump(T![continue])?;
@@ -152,10 +150,10 @@ pub fn break_expr<G: Grammar>(
     g: &G,
     r: Restrictions,
 ) -> Result<CompletedMarker, NoMemory>
-    requires within { Within G.valid G.left g.now (state p.old) }
+    requires within { Within G.valid G.left g.now p.old }
     requires here { next (state p.old) ≡ BREAK_KW }
     ensures atom { IfOk result (IsAtom (state p.old) (state p.new)) }
-    ensures script { OnOk result (Does (G.left g.now) (script.break_expr r) something (state p.old) (state p.new)) }
+    ensures script { OnOk result (Executes (G.left g.now) (script.break_expr r) p.old p.new) }
 {
     let m = p.start()?;
     p.bump(T![break])?;

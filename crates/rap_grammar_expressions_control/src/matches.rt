@@ -8,8 +8,8 @@ ghost use Rattle.rap_events.specs.State.{state, last_children, next};
 ghost use Rattle.rap_grammar_scripts.specs.Matches as script;
 ghost use Rattle.rap_grammar_scripts.specs.Words.{of_like, is_block};
 ghost use Rattle.rap_grammar_frame.specs.Grew.{Within, Behind};
-ghost use Rattle.rap_grammar_scripts.specs.Exec.{Does};
-ghost use Rattle.rap_grammar_facts.specs.Alone.{DoesAlone};
+ghost use Rattle.rap_grammar_scripts.specs.Exec.{Does, Executes};
+ghost use Rattle.rap_grammar_facts.specs.Alone.{ExecutesAlone};
 ghost use Rattle.rap_grammar_facts.specs.Nodes.{IsAtom};
 ghost use Rattle.rap_grammar_scripts.specs.Script.{something, again};
 
@@ -27,10 +27,10 @@ use rap_grammar_scripts::arguments::BlockLike;
 #[inline(never)]
 #[tactic(auto, using(rap_grammar_facts::proofs::Matches::facts), unfolding(rap_grammar_scripts::specs::Matches::match_expr))]
 pub fn match_expr<G: Grammar>(p: &mut Parser<'_>, g: &G) -> Result<CompletedMarker, NoMemory>
-    requires within { Within G.valid G.left g.now (state p.old) }
+    requires within { Within G.valid G.left g.now p.old }
     requires here { next (state p.old) ≡ MATCH_KW }
     ensures atom { IfOk result (IsAtom (state p.old) (state p.new)) }
-    ensures script { OnOk result (Does (G.left g.now) script.match_expr something (state p.old) (state p.new)) }
+    ensures script { OnOk result (Executes (G.left g.now) script.match_expr p.old p.new) }
 {
     let m = p.start()?;
     p.bump(T![match])?;
@@ -48,11 +48,11 @@ pub fn match_expr<G: Grammar>(p: &mut Parser<'_>, g: &G) -> Result<CompletedMark
 /// The arms of a `match` in their braces.
 #[tactic(auto, using(rap_grammar_facts::proofs::Matches::marker_match_arms, rap_grammar_facts::proofs::Matches::below_match_arms), unfolding(rap_grammar_scripts::specs::Matches::match_arm_list))]
 pub fn match_arm_list<G: Grammar>(p: &mut Parser<'_>, g: &G) -> Result<(), NoMemory>
-    requires within { Within G.valid G.left g.now (state p.old) }
+    requires within { Within G.valid G.left g.now p.old }
     requires here { next (state p.old) ≡ L_CURLY }
     ensures one { OnOk result
         ((state p.new).forest ≡ node (state p.old).forest MATCH_ARM_LIST (last_children (state p.new).forest)) }
-    ensures script { OnOk result (Does (G.left g.now) script.match_arm_list something (state p.old) (state p.new)) }
+    ensures script { OnOk result (Executes (G.left g.now) script.match_arm_list p.old p.new) }
 {
     let m = p.start()?;
     p.bump(T!['{'])?;
@@ -66,8 +66,8 @@ pub fn match_arm_list<G: Grammar>(p: &mut Parser<'_>, g: &G) -> Result<(), NoMem
 /// The arms up to the brace that closes. What is not an arm is reported and skipped.
 #[tactic(auto, using(rap_grammar_facts::proofs::Matches::facts, rap_grammar_frame::proofs::Loops::turns), unfolding(rap_grammar_scripts::specs::Matches::match_arms))]
 fn match_arms<G: Grammar>(p: &mut Parser<'_>, g: &G) -> Result<(), NoMemory>
-    requires behind { Behind G.valid G.left g.now (state p.old) }
-    ensures script { OnOk result (Does (G.left g.now) script.match_arms something (state p.old) (state p.new)) }
+    requires behind { Behind G.valid G.left g.now p.old }
+    ensures script { OnOk result (Executes (G.left g.now) script.match_arms p.old p.new) }
 {
     'arms: loop {
         let more = next_arm(p, g)?;
@@ -79,7 +79,7 @@ fn match_arms<G: Grammar>(p: &mut Parser<'_>, g: &G) -> Result<(), NoMemory>
 
 /// An arm, or what stands in its place, up to the brace that closes. Returns whether there was one.
 fn next_arm<G: Grammar>(p: &mut Parser<'_>, g: &G) -> Result<bool, NoMemory>
-    requires behind { Behind G.valid G.left g.now (state p.old) }
+    requires behind { Behind G.valid G.left g.now p.old }
     ensures script { IfOk result
         (λ more. Does (G.left g.now) (script.arms_turn false false) (if more then again false false else something)
         (state p.old) (state p.new)) }
@@ -105,8 +105,8 @@ fn next_arm<G: Grammar>(p: &mut Parser<'_>, g: &G) -> Result<bool, NoMemory>
 /// An arm, as `a if b => c,`.
 #[tactic(auto, using(rap_grammar_facts::proofs::Matches::fewer_arm_head, rap_grammar_facts::proofs::Matches::marker_arm_head, rap_grammar_facts::proofs::Matches::marker_arm_body, rap_grammar_frame::proofs::Steps::by_report), unfolding(rap_grammar_scripts::specs::Matches::match_arm))]
 fn match_arm<G: Grammar>(p: &mut Parser<'_>, g: &G) -> Result<(), NoMemory>
-    requires behind { Behind G.valid G.left g.now (state p.old) }
-    ensures script { OnOk result (Does (G.left g.now) script.match_arm something (state p.old) (state p.new)) }
+    requires behind { Behind G.valid G.left g.now p.old }
+    ensures script { OnOk result (Executes (G.left g.now) script.match_arm p.old p.new) }
 {
     let m = p.start()?;
     outer_attrs(p, g)?;
@@ -120,8 +120,8 @@ fn match_arm<G: Grammar>(p: &mut Parser<'_>, g: &G) -> Result<(), NoMemory>
 /// The attributes, pattern and guard of an arm. It takes no token where the arrow itself comes next.
 #[tactic(auto, using(rap_grammar_facts::proofs::Matches::facts), unfolding(rap_grammar_scripts::specs::Matches::arm_head))]
 fn arm_head<G: Grammar>(p: &mut Parser<'_>, g: &G) -> Result<(), NoMemory>
-    requires behind { Behind G.valid G.left g.now (state p.old) }
-    ensures script { OnOk result (Does (G.left g.now) script.arm_head something (state p.old) (state p.new)) }
+    requires behind { Behind G.valid G.left g.now p.old }
+    ensures script { OnOk result (Executes (G.left g.now) script.arm_head p.old p.new) }
 {
     arm_pattern(p, g)?;
     if !p.at(T![if]) {
@@ -134,9 +134,9 @@ fn arm_head<G: Grammar>(p: &mut Parser<'_>, g: &G) -> Result<(), NoMemory>
 /// The guard of an arm, as `if a`.
 #[tactic(auto, unfolding(rap_grammar_scripts::specs::Matches::match_guard))]
 fn match_guard<G: Grammar>(p: &mut Parser<'_>, g: &G) -> Result<(), NoMemory>
-    requires within { Within G.valid G.left g.now (state p.old) }
+    requires within { Within G.valid G.left g.now p.old }
     requires here { next (state p.old) ≡ IF_KW }
-    ensures script { OnOk result (Does (G.left g.now) script.match_guard something (state p.old) (state p.new)) }
+    ensures script { OnOk result (Executes (G.left g.now) script.match_guard p.old p.new) }
 {
     let m = p.start()?;
     p.bump(T![if])?;
@@ -153,8 +153,8 @@ fn match_guard<G: Grammar>(p: &mut Parser<'_>, g: &G) -> Result<(), NoMemory>
 /// The body of an arm, and the comma after it.
 #[tactic(auto, using(rap_grammar_facts::proofs::Matches::facts), unfolding(rap_grammar_scripts::specs::Matches::arm_body))]
 fn arm_body<G: Grammar>(p: &mut Parser<'_>, g: &G) -> Result<(), NoMemory>
-    requires behind { Behind G.valid G.left g.now (state p.old) }
-    ensures script { OnOk result (Does (G.left g.now) script.arm_body something (state p.old) (state p.new)) }
+    requires behind { Behind G.valid G.left g.now p.old }
+    ensures script { OnOk result (Executes (G.left g.now) script.arm_body p.old p.new) }
 {
     if p.eat(T![,])? {
         p.error("expected expression")?;
@@ -171,8 +171,7 @@ fn arm_body<G: Grammar>(p: &mut Parser<'_>, g: &G) -> Result<(), NoMemory>
 /// The comma after an arm. It may be missing after a block and at the end.
 #[tactic(auto, unfolding(rap_grammar_scripts::specs::Matches::arm_end))]
 fn arm_end(p: &mut Parser<'_>, block_like: BlockLike) -> Result<(), NoMemory>
-    ensures script { OnOk result
-        (DoesAlone (script.arm_end (is_block (of_like block_like))) something (state p.old) (state p.new)) }
+    ensures script { OnOk result (ExecutesAlone (script.arm_end (is_block (of_like block_like))) p.old p.new) }
 {
     if p.eat(T![,])? {
         return Ok(());

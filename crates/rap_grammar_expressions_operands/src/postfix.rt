@@ -8,7 +8,7 @@ ghost use Rattle.rap_grammar_scripts.specs.Postfix as script;
 ghost use Rattle.rap_grammar_scripts.specs.Words.{of_like, is_block, of_bool};
 ghost use Rattle.rap_grammar_scripts.specs.Postfix.{is_method_call};
 ghost use Rattle.rap_grammar_frame.specs.Grew.{Within, Behind};
-ghost use Rattle.rap_grammar_scripts.specs.Exec.{Does};
+ghost use Rattle.rap_grammar_scripts.specs.Exec.{Does, Executes};
 ghost use Rattle.rap_grammar_facts.specs.Nodes.{IsOperand};
 ghost use Rattle.rap_grammar_scripts.specs.Script.{something, block, again};
 ghost use Rattle.rap_grammar_scripts.specs.Test.{holds};
@@ -37,7 +37,7 @@ pub fn postfix_expr<G: Grammar>(
     mut block_like: BlockLike,
     mut allow_calls: bool,
 ) -> Result<(CompletedMarker, BlockLike), NoMemory>
-    requires within { Within G.valid G.left g.now (state p.old) }
+    requires within { Within G.valid G.left g.now p.old }
     requires last { IsLast (state p.old) lhs lhs.kind.value }
     requires plain { is_plain lhs.kind.value ≡ true }
     ensures operand { IfOk result (λ e. IsOperand (state p.new) e.0) }
@@ -65,7 +65,7 @@ fn postfix<G: Grammar>(
     lhs: CompletedMarker,
     allow_calls: bool,
 ) -> Result<(CompletedMarker, bool), NoMemory>
-    requires within { Within G.valid G.left g.now (state p.old) }
+    requires within { Within G.valid G.left g.now p.old }
     requires last { IsLast (state p.old) lhs lhs.kind.value }
     requires plain { is_plain lhs.kind.value ≡ true }
     ensures operand { IfOk result (λ e. IsOperand (state p.new) e.0) }
@@ -93,7 +93,7 @@ fn postfix_dot_expr<G: Grammar>(
     g: &G,
     lhs: CompletedMarker,
 ) -> Result<(CompletedMarker, bool), NoMemory>
-    requires within { Within G.valid G.left g.now (state p.old) }
+    requires within { Within G.valid G.left g.now p.old }
     requires last { IsLast (state p.old) lhs lhs.kind.value }
     requires here { next (state p.old) ≡ DOT }
     ensures operand { IfOk result (λ e. IsOperand (state p.new) e.0) }
@@ -116,7 +116,7 @@ fn after_dot<G: Grammar>(
     g: &G,
     mut m: Marker,
 ) -> Result<(CompletedMarker, bool), NoMemory>
-    requires behind { Behind G.valid G.left g.now (state p.old) }
+    requires behind { Behind G.valid G.left g.now p.old }
     requires newest { (state p.old).marker ≡ Some m.pos.value }
     ensures operand { IfOk result (λ e. IsOperand (state p.new) e.0) }
     ensures script { IfOk result (λ e. Does (G.left g.now) script.after_dot (of_bool e.1) (state p.old) (state p.new)) }
@@ -144,10 +144,10 @@ fn name_after_dot<G: Grammar>(
     g: &G,
     m: Marker,
 ) -> Result<CompletedMarker, NoMemory>
-    requires behind { Behind G.valid G.left g.now (state p.old) }
+    requires behind { Behind G.valid G.left g.now p.old }
     requires newest { (state p.old).marker ≡ Some m.pos.value }
     ensures operand { IfOk result (IsOperand (state p.new)) }
-    ensures script { OnOk result (Does (G.left g.now) script.name_after_dot something (state p.old) (state p.new)) }
+    ensures script { OnOk result (Executes (G.left g.now) script.name_after_dot p.old p.new) }
 {
     if is_method_call(p) {
         let cm = method_call_expr(p, g, m)?;
@@ -180,11 +180,11 @@ fn call_expr<G: Grammar>(
     g: &G,
     lhs: CompletedMarker,
 ) -> Result<CompletedMarker, NoMemory>
-    requires within { Within G.valid G.left g.now (state p.old) }
+    requires within { Within G.valid G.left g.now p.old }
     requires last { IsLast (state p.old) lhs lhs.kind.value }
     requires here { next (state p.old) ≡ L_PAREN }
     ensures operand { IfOk result (IsOperand (state p.new)) }
-    ensures script { OnOk result (Does (G.left g.now) script.call_expr something (state p.old) (state p.new)) }
+    ensures script { OnOk result (Executes (G.left g.now) script.call_expr p.old p.new) }
 {
     let m = lhs.precede(p)?;
     arg_list(p, g)?;
@@ -200,11 +200,11 @@ fn index_expr<G: Grammar>(
     g: &G,
     lhs: CompletedMarker,
 ) -> Result<CompletedMarker, NoMemory>
-    requires within { Within G.valid G.left g.now (state p.old) }
+    requires within { Within G.valid G.left g.now p.old }
     requires last { IsLast (state p.old) lhs lhs.kind.value }
     requires here { next (state p.old) ≡ L_BRACK }
     ensures operand { IfOk result (IsOperand (state p.new)) }
-    ensures script { OnOk result (Does (G.left g.now) script.index_expr something (state p.old) (state p.new)) }
+    ensures script { OnOk result (Executes (G.left g.now) script.index_expr p.old p.new) }
 {
     let m = lhs.precede(p)?;
     p.bump(T!['['])?;
@@ -221,10 +221,10 @@ fn method_call_expr<G: Grammar>(
     g: &G,
     m: Marker,
 ) -> Result<CompletedMarker, NoMemory>
-    requires behind { Behind G.valid G.left g.now (state p.old) }
+    requires behind { Behind G.valid G.left g.now p.old }
     requires newest { (state p.old).marker ≡ Some m.pos.value }
     ensures operand { IfOk result (IsOperand (state p.new)) }
-    ensures script { OnOk result (Does (G.left g.now) script.method_call_expr something (state p.old) (state p.new)) }
+    ensures script { OnOk result (Executes (G.left g.now) script.method_call_expr p.old p.new) }
 {
     if is_path_name(p.current()) {
         name_ref_mod_path(p)?;
@@ -243,10 +243,10 @@ fn method_arguments<G: Grammar>(
     g: &G,
     m: Marker,
 ) -> Result<CompletedMarker, NoMemory>
-    requires behind { Behind G.valid G.left g.now (state p.old) }
+    requires behind { Behind G.valid G.left g.now p.old }
     requires newest { (state p.old).marker ≡ Some m.pos.value }
     ensures operand { IfOk result (IsOperand (state p.new)) }
-    ensures script { OnOk result (Does (G.left g.now) script.method_arguments something (state p.old) (state p.new)) }
+    ensures script { OnOk result (Executes (G.left g.now) script.method_arguments p.old p.new) }
 {
     opt_generic_arg_list_expr(p, g)?;
     if p.at(T!['(']) {
@@ -264,7 +264,7 @@ fn await_expr(p: &mut Parser<'_>, m: Marker) -> Result<CompletedMarker, NoMemory
     requires newest { (state p.old).marker ≡ Some m.pos.value }
     requires here { next (state p.old) ≡ AWAIT_KW }
     ensures operand { IfOk result (IsOperand (state p.new)) }
-    ensures script { OnOk result ((depth : ℕ) → Does depth script.await_expr something (state p.old) (state p.new)) }
+    ensures script { OnOk result ((depth : ℕ) → Executes depth script.await_expr p.old p.new) }
 {
     p.bump(T![await])?;
     let cm = m.complete(p, SyntaxKind::AWAIT_EXPR)?;
@@ -276,7 +276,7 @@ fn await_expr(p: &mut Parser<'_>, m: Marker) -> Result<CompletedMarker, NoMemory
 fn field_expr(p: &mut Parser<'_>, m: Marker) -> Result<CompletedMarker, NoMemory>
     requires newest { (state p.old).marker ≡ Some m.pos.value }
     ensures operand { IfOk result (IsOperand (state p.new)) }
-    ensures script { OnOk result ((depth : ℕ) → Does depth script.field_expr something (state p.old) (state p.new)) }
+    ensures script { OnOk result ((depth : ℕ) → Executes depth script.field_expr p.old p.new) }
 {
     if is_path_name_or_index(p.current()) {
         name_ref_mod_path_or_index(p)?;
@@ -294,7 +294,7 @@ fn try_expr(p: &mut Parser<'_>, lhs: CompletedMarker) -> Result<CompletedMarker,
     requires last { IsLast (state p.old) lhs lhs.kind.value }
     requires here { next (state p.old) ≡ QUESTION }
     ensures operand { IfOk result (IsOperand (state p.new)) }
-    ensures script { OnOk result ((depth : ℕ) → Does depth script.try_expr something (state p.old) (state p.new)) }
+    ensures script { OnOk result ((depth : ℕ) → Executes depth script.try_expr p.old p.new) }
 {
     let m = lhs.precede(p)?;
     p.bump(T![?])?;
@@ -326,9 +326,9 @@ impl Element for Argument {
 /// The arguments of a call, as `(a, b)`.
 #[tactic(auto, unfolding(rap_grammar_scripts::specs::Postfix::arg_list))]
 fn arg_list<G: Grammar>(p: &mut Parser<'_>, g: &G) -> Result<(), NoMemory>
-    requires within { Within G.valid G.left g.now (state p.old) }
+    requires within { Within G.valid G.left g.now p.old }
     requires here { next (state p.old) ≡ L_PAREN }
-    ensures script { OnOk result (Does (G.left g.now) script.arg_list something (state p.old) (state p.new)) }
+    ensures script { OnOk result (Executes (G.left g.now) script.arg_list p.old p.new) }
 {
     let m = p.start()?;
     delimited(

@@ -8,9 +8,8 @@ ghost use Rattle.rap_events.specs.Power.{power, open_ended};
 ghost use Rattle.rap_grammar_scripts.specs.Ranges as script;
 ghost use Rattle.rap_grammar_scripts.specs.Ranges.{has_range_end};
 ghost use Rattle.rap_grammar_frame.specs.Grew.{Within};
-ghost use Rattle.rap_grammar_scripts.specs.Exec.{Does};
+ghost use Rattle.rap_grammar_scripts.specs.Exec.{Does, Executes};
 ghost use Rattle.rap_grammar_facts.specs.Nodes.{IsAtom, Wrapped};
-ghost use Rattle.rap_grammar_scripts.specs.Script.{something};
 ghost use Rattle.rap_grammar_scripts.specs.Test.{holds};
 ghost use Rattle.rap_grammar_scripts.specs.Words.{of_bool};
 
@@ -43,7 +42,7 @@ pub fn range_expr<G: Grammar>(
     r: Restrictions,
     op: SyntaxKind,
 ) -> Result<(CompletedMarker, bool), NoMemory>
-    requires within { Within G.valid G.left g.now (state p.old) }
+    requires within { Within G.valid G.left g.now p.old }
     requires last { IsLast (state p.old) lhs lhs.kind.value }
     requires here { At (state p.old) op }
     requires power { power op ≡ 2 }
@@ -76,12 +75,11 @@ pub fn prefix_range<G: Grammar>(
     r: Restrictions,
     op: SyntaxKind,
 ) -> Result<CompletedMarker, NoMemory>
-    requires within { Within G.valid G.left g.now (state p.old) }
+    requires within { Within G.valid G.left g.now p.old }
     requires here { At (state p.old) op }
     requires some { op ≢ EOF }
     ensures atom { IfOk result (IsAtom (state p.old) (state p.new)) }
-    ensures script { OnOk result
-        (Does (G.left g.now) (script.prefix_range r op) something (state p.old) (state p.new)) }
+    ensures script { OnOk result (Executes (G.left g.now) (script.prefix_range r op) p.old p.new) }
 {
     let m = p.start()?;
     p.bump(op)?;

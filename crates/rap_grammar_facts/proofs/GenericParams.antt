@@ -1,6 +1,6 @@
 -- What is computed of the scripts of GenericParams: the open nodes are as before, and a token is taken.
 -- Written by crates/rap_grammar_facts/facts from the scripts: an edit here is lost.
-use Rattle.std.proofs.Common.{◌≡◌, ◌<◌, ◌≤◌, ℕ, Bool, true, refl}
+use Rattle.std.proofs.Common.{◌≡◌, ◌<◌, ℕ, Bool, true, refl}
 use Rattle.rap_events.specs.State.{state, next}
 use Rattle.rap_events.specs.declared.parser.Parser.{Parser}
 use Rattle.rap_grammar_scripts.specs.Effects.{level}
@@ -10,8 +10,8 @@ use Rattle.rap_grammar_scripts.specs.Script.{Outcome, something}
 use Rattle.rap_grammar_scripts.specs.Words.{next_so, of_bool}
 use Rattle.rap_grammar_frame.specs.Grew.{Grew, Took}
 use Rattle.rap_grammar_frame.specs.Room.{element_room, element_events}
-use Rattle.rap_grammar_frame.proofs.Done.{less_left, marker_kept, moved, took}
-use Rattle.rap_grammar_frame.proofs.Ended.{below_kept, moved_where}
+use Rattle.rap_grammar_frame.proofs.Done.{moved, took}
+use Rattle.rap_grammar_frame.proofs.Ended.{moved_where}
 use Rattle.rap_grammar_facts.specs.Alone.{DoesAlone}
 use Rattle.rap_grammar_facts.proofs.Alone.{kept}
 use Rattle.rap_grammar_facts.proofs.Grown.{grown, element_grew, element_took}
@@ -64,24 +64,6 @@ level_path_type_bound = refl
 pub level_bare_bound : level script.bare_bound ≡ true
 unfolding scripts
 level_bare_bound = refl
-
-pub marker_bare_bound : {n : ℕ} {v : Outcome} → (p q : Parser) →
-    Does n script.bare_bound v (state p) (state q) →
-    (state q).marker ≡ (state p).marker
-unfolding scripts
-marker_bare_bound p q d = marker_kept p q d refl
-
-pub below_bare_bound : {n : ℕ} {v : Outcome} → (p q : Parser) →
-    Does n script.bare_bound v (state p) (state q) →
-    (state q).below ≡ (state p).below
-unfolding scripts
-below_bare_bound p q d = below_kept p q d refl
-
-pub fewer_bare_bound : {n : ℕ} {v : Outcome} → (p q : Parser) →
-    Does n script.bare_bound v (state p) (state q) →
-    (state q).left ≤ (state p).left
-unfolding scripts
-fewer_bare_bound p q d = less_left p q d
 
 pub level_type_bound : level script.type_bound ≡ true
 unfolding scripts
@@ -140,24 +122,6 @@ grew_lifetime_bound_list p q d = grown 12 p q d refl
 pub level_lifetime_bounds : level script.lifetime_bounds ≡ true
 unfolding scripts
 level_lifetime_bounds = refl
-
-pub marker_lifetime_bounds : {n : ℕ} → (p q : Parser) →
-    Does n script.lifetime_bounds something (state p) (state q) →
-    (state q).marker ≡ (state p).marker
-unfolding scripts
-marker_lifetime_bounds p q d = marker_kept p q d refl
-
-pub below_lifetime_bounds : {n : ℕ} → (p q : Parser) →
-    Does n script.lifetime_bounds something (state p) (state q) →
-    (state q).below ≡ (state p).below
-unfolding scripts
-below_lifetime_bounds p q d = below_kept p q d refl
-
-pub fewer_lifetime_bounds : {n : ℕ} → (p q : Parser) →
-    Does n script.lifetime_bounds something (state p) (state q) →
-    (state q).left ≤ (state p).left
-unfolding scripts
-fewer_lifetime_bounds p q d = less_left p q d
 
 pub moved_lifetime_param : {n : ℕ} {v : Outcome} → (p q : Parser) →
     Does n script.lifetime_param v (state p) (state q) →
@@ -223,45 +187,9 @@ pub level_predicate_bounds : level script.predicate_bounds ≡ true
 unfolding scripts
 level_predicate_bounds = refl
 
-pub marker_predicate_bounds : {n : ℕ} → (p q : Parser) →
-    Does n script.predicate_bounds something (state p) (state q) →
-    (state q).marker ≡ (state p).marker
-unfolding scripts
-marker_predicate_bounds p q d = marker_kept p q d refl
-
-pub below_predicate_bounds : {n : ℕ} → (p q : Parser) →
-    Does n script.predicate_bounds something (state p) (state q) →
-    (state q).below ≡ (state p).below
-unfolding scripts
-below_predicate_bounds p q d = below_kept p q d refl
-
-pub fewer_predicate_bounds : {n : ℕ} → (p q : Parser) →
-    Does n script.predicate_bounds something (state p) (state q) →
-    (state q).left ≤ (state p).left
-unfolding scripts
-fewer_predicate_bounds p q d = less_left p q d
-
 pub level_type_predicate : level script.type_predicate ≡ true
 unfolding scripts
 level_type_predicate = refl
-
-pub marker_type_predicate : {n : ℕ} → (p q : Parser) →
-    Does n script.type_predicate something (state p) (state q) →
-    (state q).marker ≡ (state p).marker
-unfolding scripts
-marker_type_predicate p q d = marker_kept p q d refl
-
-pub below_type_predicate : {n : ℕ} → (p q : Parser) →
-    Does n script.type_predicate something (state p) (state q) →
-    (state q).below ≡ (state p).below
-unfolding scripts
-below_type_predicate p q d = below_kept p q d refl
-
-pub fewer_type_predicate : {n : ℕ} → (p q : Parser) →
-    Does n script.type_predicate something (state p) (state q) →
-    (state q).left ≤ (state p).left
-unfolding scripts
-fewer_type_predicate p q d = less_left p q d
 
 pub level_where_predicate : level script.where_predicate ≡ true
 unfolding scripts
@@ -310,9 +238,6 @@ pub ruleset facts = (
   moved_bound_macro_call,
   level_path_type_bound,
   level_bare_bound,
-  marker_bare_bound,
-  below_bare_bound,
-  fewer_bare_bound,
   level_type_bound,
   on_type_bound,
   level_type_bounds,
@@ -325,9 +250,6 @@ pub ruleset facts = (
   level_lifetime_bound_list,
   grew_lifetime_bound_list,
   level_lifetime_bounds,
-  marker_lifetime_bounds,
-  below_lifetime_bounds,
-  fewer_lifetime_bounds,
   moved_lifetime_param,
   level_type_default,
   level_const_type,
@@ -341,13 +263,7 @@ pub ruleset facts = (
   level_generic_param_list,
   moved_generic_param_list,
   level_predicate_bounds,
-  marker_predicate_bounds,
-  below_predicate_bounds,
-  fewer_predicate_bounds,
   level_type_predicate,
-  marker_type_predicate,
-  below_type_predicate,
-  fewer_type_predicate,
   level_where_predicate,
   took_where_predicate,
   level_after_predicate,

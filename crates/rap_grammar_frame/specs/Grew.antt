@@ -2,16 +2,17 @@
 -- (What calls promise one another; no promise of the library rests on it.)
 use Rattle.std.specs.Prelude.{◌≡◌, ℕ, ◌+◌, ◌≤◌, ◌*◌, ◌<◌, Option, Some, None}
 use Rattle.rap_events.specs.Machine.{push, top}
-use Rattle.rap_events.specs.State.{State, IsLast, but_last}
+use Rattle.rap_events.specs.State.{State, state, IsLast, but_last}
 use Rattle.rap_events.specs.declared.parser.CompletedMarker.{CompletedMarker}
+use Rattle.rap_events.specs.declared.parser.Parser.{Parser}
 
 -- No more tokens are left than the recursive rules may have.
-abbrev pub Within : {G : Type 0} → (G → Type 0) → (G → ℕ) → G → State → Type 0
-Within valid left g s = valid g × (s.left ≤ left g)
+abbrev pub Within : {G : Type 0} → (G → Type 0) → (G → ℕ) → G → Parser → Type 0
+Within valid left g p = valid g × ((state p).left ≤ left g)
 
 -- The same after a token was taken.
-abbrev pub Behind : {G : Type 0} → (G → Type 0) → (G → ℕ) → G → State → Type 0
-Behind valid left g s = valid g × (s.left < left g)
+abbrev pub Behind : {G : Type 0} → (G → Type 0) → (G → ℕ) → G → Parser → Type 0
+Behind valid left g p = valid g × ((state p).left < left g)
 
 -- The open markers are as before. At most 256 events for each token taken, and `k` more, were recorded.
 pub record Grew (old new : State) (k : ℕ) : Type 0 where

@@ -7,10 +7,9 @@ ghost use Rattle.rap_events.specs.State.{state, next};
 ghost use Rattle.rap_grammar_scripts.specs.ItemNames.{is_item_paren_recovery};
 ghost use Rattle.rap_grammar_scripts.specs.Names.{name_r};
 ghost use Rattle.rap_grammar_frame.specs.Grew.{Grew, Took};
-ghost use Rattle.rap_grammar_scripts.specs.Exec.{Does};
+ghost use Rattle.rap_grammar_scripts.specs.Exec.{Executes};
 ghost use Rattle.rap_grammar_scripts.specs.Recovery.{is_item_recovery};
 ghost use Rattle.rap_grammar_frame.specs.Room.{name_room, recovery_events};
-ghost use Rattle.rap_grammar_scripts.specs.Script.{something};
 
 use crate::names::{given_name, name_r};
 use crate::recovery::item_recovery_set;
@@ -24,8 +23,7 @@ use rap_events::parser::Parser;
 pub fn item_name(p: &mut Parser<'_>) -> Result<(), NoMemory>
     ensures grew { OnOk result (Grew (state p.old) (state p.new) recovery_events) }
     ensures took { OnOk result (next (state p.old) ≡ IDENT → Took (state p.old) (state p.new) name_room) }
-    ensures script { OnOk result
-        ((depth : ℕ) → Does depth (name_r is_item_recovery) something (state p.old) (state p.new)) }
+    ensures script { OnOk result ((depth : ℕ) → Executes depth (name_r is_item_recovery) p.old p.new) }
 {
     if p.at(T![ident]) {
         given_name(p)?;
@@ -41,8 +39,7 @@ pub fn item_name(p: &mut Parser<'_>) -> Result<(), NoMemory>
 pub fn fn_name(p: &mut Parser<'_>) -> Result<(), NoMemory>
     ensures grew { OnOk result (Grew (state p.old) (state p.new) recovery_events) }
     ensures took { OnOk result (next (state p.old) ≡ IDENT → Took (state p.old) (state p.new) name_room) }
-    ensures script { OnOk result
-        ((depth : ℕ) → Does depth (name_r is_item_paren_recovery) something (state p.old) (state p.new)) }
+    ensures script { OnOk result ((depth : ℕ) → Executes depth (name_r is_item_paren_recovery) p.old p.new) }
 {
     if p.at(T![ident]) {
         given_name(p)?;

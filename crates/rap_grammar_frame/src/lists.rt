@@ -5,10 +5,10 @@ ghost use Rattle.rap_base.specs.TokenKind.{EOF};
 ghost use Rattle.rap_events.specs.State.{state, next, At};
 ghost use Rattle.rap_grammar_scripts.specs.Lists as script;
 ghost use Rattle.rap_grammar_frame.specs.Grew.{Behind, Grew, Took, Within};
-ghost use Rattle.rap_grammar_scripts.specs.Exec.{Does};
+ghost use Rattle.rap_grammar_scripts.specs.Exec.{Does, Executes};
 ghost use Rattle.rap_grammar_scripts.specs.declared.rule.Rule.{Rule};
 ghost use Rattle.rap_grammar_frame.specs.Room.{element_events, element_room, brackets_room};
-ghost use Rattle.rap_grammar_scripts.specs.Script.{Script, something};
+ghost use Rattle.rap_grammar_scripts.specs.Script.{Script};
 ghost use Rattle.rap_grammar_scripts.specs.Words.{of_bool};
 
 use crate::knot::Grammar;
@@ -26,7 +26,7 @@ pub trait Element {
 
     /// One element, if one begins. Returns whether the list can go on after it.
     fn parse<G: Grammar>(&self, p: &mut Parser<'_>, g: &G) -> Result<bool, NoMemory>
-        requires behind { Behind G.valid G.left g.now (state p.old) }
+        requires behind { Behind G.valid G.left g.now p.old }
         requires more { next (state p.old) ≢ EOF }
         ensures grew { OnOk result (Grew (state p.old) (state p.new) element_events) }
         ensures took { IfOk result (λ going_on. going_on ≡ true → Took (state p.old) (state p.new) element_room) }
@@ -50,16 +50,15 @@ pub fn delimited<G: Grammar, E: Element>(
     unexpected_delim_message: &str,
     element: &E,
 ) -> Result<(), NoMemory>
-    requires within { Within G.valid G.left g.now (state p.old) }
+    requires within { Within G.valid G.left g.now p.old }
     requires here { At (state p.old) bra }
     requires bra { bra ≢ EOF }
     requires ket { ket ≢ EOF }
     requires delim { delim ≢ EOF }
     ensures took { OnOk result (Took (state p.old) (state p.new) brackets_room) }
     ensures script { OnOk result
-        (Does (G.left g.now)
-        (script.delimited (E.element element.now) bra ket delim unexpected_delim_message.now (E.first element.now))
-        something (state p.old) (state p.new)) }
+        (Executes (G.left g.now)
+        (script.delimited (E.element element.now) bra ket delim unexpected_delim_message.now (E.first element.now)) p.old p.new) }
 {
     p.bump(bra)?;
     elements(p, g, ket, delim, unexpected_delim_message, element)?;
@@ -77,13 +76,12 @@ fn elements<G: Grammar, E: Element>(
     unexpected_delim_message: &str,
     element: &E,
 ) -> Result<(), NoMemory>
-    requires behind { Behind G.valid G.left g.now (state p.old) }
+    requires behind { Behind G.valid G.left g.now p.old }
     requires delim { delim ≢ EOF }
     ensures grew { OnOk result (Grew (state p.old) (state p.new) element_events) }
     ensures script { OnOk result
-        (Does (G.left g.now)
-        (script.elements (E.element element.now) ket delim unexpected_delim_message.now (E.first element.now)) something
-        (state p.old) (state p.new)) }
+        (Executes (G.left g.now)
+        (script.elements (E.element element.now) ket delim unexpected_delim_message.now (E.first element.now)) p.old p.new) }
 {
     'elements: while !p.at(ket) && !p.at(SyntaxKind::EOF) {
         if p.at(delim) {

@@ -8,10 +8,9 @@ ghost use Rattle.rap_events.specs.State.{state, next, NthAt, ReadsAs};
 ghost use Rattle.rap_grammar_scripts.specs.First.{is_path_name, is_path_name_or_index};
 ghost use Rattle.rap_grammar_scripts.specs.Names as script;
 ghost use Rattle.rap_grammar_frame.specs.Grew.{Grew, Took};
-ghost use Rattle.rap_grammar_scripts.specs.Exec.{Does};
+ghost use Rattle.rap_grammar_scripts.specs.Exec.{Executes};
 ghost use Rattle.rap_grammar_scripts.specs.Names.{given_name};
 ghost use Rattle.rap_grammar_frame.specs.Room.{name_room, recovery_events};
-ghost use Rattle.rap_grammar_scripts.specs.Script.{something};
 ghost use Rattle.rap_grammar_scripts.specs.Test.{holds};
 ghost use Rattle.rap_grammar_scripts.specs.Words.{starts_builtin};
 
@@ -47,8 +46,7 @@ pub fn is_path_name(kind: SyntaxKind) -> bool
 pub fn name_ref_mod_path(p: &mut Parser<'_>) -> Result<(), NoMemory>
     ensures grew { OnOk result (Grew (state p.old) (state p.new) recovery_events) }
     ensures took { OnOk result (next (state p.old) ≢ EOF → Took (state p.old) (state p.new) name_room) }
-    ensures script { OnOk result
-        ((depth : ℕ) → Does depth script.name_ref_mod_path something (state p.old) (state p.new)) }
+    ensures script { OnOk result ((depth : ℕ) → Executes depth script.name_ref_mod_path p.old p.new) }
 {
     if is_path_name(p.current()) {
         let m = p.start()?;
@@ -72,8 +70,7 @@ pub fn is_path_name_or_index(kind: SyntaxKind) -> bool
 pub fn name_ref_mod_path_or_index(p: &mut Parser<'_>) -> Result<(), NoMemory>
     ensures grew { OnOk result (Grew (state p.old) (state p.new) recovery_events) }
     ensures took { OnOk result (next (state p.old) ≢ EOF → Took (state p.old) (state p.new) name_room) }
-    ensures script { OnOk result
-        ((depth : ℕ) → Does depth script.name_ref_mod_path_or_index something (state p.old) (state p.new)) }
+    ensures script { OnOk result ((depth : ℕ) → Executes depth script.name_ref_mod_path_or_index p.old p.new) }
 {
     if is_path_name_or_index(p.current()) {
         let m = p.start()?;
@@ -90,7 +87,7 @@ pub fn name_ref_mod_path_or_index(p: &mut Parser<'_>) -> Result<(), NoMemory>
 pub fn lifetime(p: &mut Parser<'_>) -> Result<(), NoMemory>
     requires here { next (state p.old) ≡ LIFETIME_IDENT }
     ensures took { OnOk result (Took (state p.old) (state p.new) name_room) }
-    ensures script { OnOk result ((depth : ℕ) → Does depth script.lifetime something (state p.old) (state p.new)) }
+    ensures script { OnOk result ((depth : ℕ) → Executes depth script.lifetime p.old p.new) }
 {
     let m = p.start()?;
     p.bump(T![lifetime_ident])?;
@@ -102,7 +99,7 @@ pub fn lifetime(p: &mut Parser<'_>) -> Result<(), NoMemory>
 pub fn given_name(p: &mut Parser<'_>) -> Result<(), NoMemory>
     requires here { next (state p.old) ≡ IDENT }
     ensures took { OnOk result (Took (state p.old) (state p.new) name_room) }
-    ensures script { OnOk result ((depth : ℕ) → Does depth given_name something (state p.old) (state p.new)) }
+    ensures script { OnOk result ((depth : ℕ) → Executes depth given_name p.old p.new) }
 {
     let m = p.start()?;
     p.bump(T![ident])?;
@@ -118,7 +115,7 @@ pub fn name_r(p: &mut Parser<'_>, recovery: TokenSet) -> Result<(), NoMemory>
     ensures took { OnOk result (next (state p.old) ≡ IDENT → Took (state p.old) (state p.new) name_room) }
     ensures script { OnOk result
         ((depth : ℕ) → (kept : ℕ → Bool) → ((kind : ℕ) → member recovery kind ≡ kept kind) →
-        Does depth (script.name_r kept) something (state p.old) (state p.new)) }
+        Executes depth (script.name_r kept) p.old p.new) }
 {
     if p.at(T![ident]) {
         given_name(p)?;
@@ -133,7 +130,7 @@ pub fn name_r(p: &mut Parser<'_>, recovery: TokenSet) -> Result<(), NoMemory>
 pub fn name(p: &mut Parser<'_>) -> Result<(), NoMemory>
     ensures grew { OnOk result (Grew (state p.old) (state p.new) recovery_events) }
     ensures took { OnOk result (next (state p.old) ≡ IDENT → Took (state p.old) (state p.new) name_room) }
-    ensures script { OnOk result ((depth : ℕ) → Does depth script.name something (state p.old) (state p.new)) }
+    ensures script { OnOk result ((depth : ℕ) → Executes depth script.name p.old p.new) }
 {
     name_r(p, TokenSet::new(&[]))?;
     Ok(())
@@ -145,8 +142,7 @@ pub fn name_ref_or_index(p: &mut Parser<'_>) -> Result<(), NoMemory>
     requires more { next (state p.old) ≢ EOF }
     ensures took { OnOk result (Took (state p.old) (state p.new) name_room) }
     ensures rest { OnOk result ((state p.new).rest ≡ drop 1 (state p.old).rest) }
-    ensures script { OnOk result
-        ((depth : ℕ) → Does depth script.name_ref_or_index something (state p.old) (state p.new)) }
+    ensures script { OnOk result ((depth : ℕ) → Executes depth script.name_ref_or_index p.old p.new) }
 {
     let m = p.start()?;
     p.bump_any()?;
@@ -160,8 +156,7 @@ pub fn name_any_identifier(p: &mut Parser<'_>) -> Result<(), NoMemory>
     requires here { is_any_identifier (next (state p.old)) ≡ true }
     ensures took { OnOk result (Took (state p.old) (state p.new) name_room) }
     ensures rest { OnOk result ((state p.new).rest ≡ drop 1 (state p.old).rest) }
-    ensures script { OnOk result
-        ((depth : ℕ) → Does depth script.name_any_identifier something (state p.old) (state p.new)) }
+    ensures script { OnOk result ((depth : ℕ) → Executes depth script.name_any_identifier p.old p.new) }
 {
     let m = p.start()?;
     p.bump_remap_any_ident()?;
@@ -174,8 +169,7 @@ pub fn name_any_identifier(p: &mut Parser<'_>) -> Result<(), NoMemory>
 pub fn name_ref_or_upper_self(p: &mut Parser<'_>) -> Result<(), NoMemory>
     ensures grew { OnOk result (Grew (state p.old) (state p.new) recovery_events) }
     ensures took { OnOk result (next (state p.old) ≢ EOF → Took (state p.old) (state p.new) name_room) }
-    ensures script { OnOk result
-        ((depth : ℕ) → Does depth script.name_ref_or_upper_self something (state p.old) (state p.new)) }
+    ensures script { OnOk result ((depth : ℕ) → Executes depth script.name_ref_or_upper_self p.old p.new) }
 {
     if matches!(p.current(), T![ident] | T![Self]) {
         let m = p.start()?;
@@ -192,8 +186,7 @@ pub fn name_ref_or_upper_self(p: &mut Parser<'_>) -> Result<(), NoMemory>
 pub fn name_ref_or_self(p: &mut Parser<'_>) -> Result<(), NoMemory>
     ensures grew { OnOk result (Grew (state p.old) (state p.new) recovery_events) }
     ensures took { OnOk result (next (state p.old) ≢ EOF → Took (state p.old) (state p.new) name_room) }
-    ensures script { OnOk result
-        ((depth : ℕ) → Does depth script.name_ref_or_self something (state p.old) (state p.new)) }
+    ensures script { OnOk result ((depth : ℕ) → Executes depth script.name_ref_or_self p.old p.new) }
 {
     if matches!(p.current(), T![ident] | T![self]) {
         let m = p.start()?;
@@ -209,7 +202,7 @@ pub fn name_ref_or_self(p: &mut Parser<'_>) -> Result<(), NoMemory>
 #[tactic(auto, unfolding(rap_grammar_scripts::specs::Names::opt_rename))]
 pub fn opt_rename(p: &mut Parser<'_>) -> Result<(), NoMemory>
     ensures grew { OnOk result (Grew (state p.old) (state p.new) 0) }
-    ensures script { OnOk result ((depth : ℕ) → Does depth script.opt_rename something (state p.old) (state p.new)) }
+    ensures script { OnOk result ((depth : ℕ) → Executes depth script.opt_rename p.old p.new) }
 {
     if !p.at(T![as]) {
         return Ok(());
@@ -230,7 +223,7 @@ pub fn opt_rename(p: &mut Parser<'_>) -> Result<(), NoMemory>
 pub fn abi(p: &mut Parser<'_>) -> Result<(), NoMemory>
     requires here { next (state p.old) ≡ EXTERN_KW }
     ensures took { OnOk result (Took (state p.old) (state p.new) name_room) }
-    ensures script { OnOk result ((depth : ℕ) → Does depth script.abi something (state p.old) (state p.new)) }
+    ensures script { OnOk result ((depth : ℕ) → Executes depth script.abi p.old p.new) }
 {
     let m = p.start()?;
     p.bump(T![extern])?;

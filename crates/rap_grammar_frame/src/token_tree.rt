@@ -11,9 +11,8 @@ ghost use Rattle.rap_grammar_scripts.specs.Words.{of_like};
 ghost use Rattle.rap_grammar_scripts.specs.First.{is_bracket, one_of};
 ghost use Rattle.rap_grammar_frame.specs.Grew.{Took};
 ghost use Rattle.rap_grammar_scripts.specs.TokenTree as script;
-ghost use Rattle.rap_grammar_scripts.specs.Exec.{Does};
+ghost use Rattle.rap_grammar_scripts.specs.Exec.{Does, Executes};
 ghost use Rattle.rap_grammar_frame.specs.Room.{list_room};
-ghost use Rattle.rap_grammar_scripts.specs.Script.{something};
 ghost use Rattle.rap_grammar_scripts.specs.Test.{holds};
 
 use rap_base::T;
@@ -54,8 +53,7 @@ pub fn token_tree(p: &mut Parser<'_>) -> Result<(), NoMemory>
     ensures one { OnOk result
         ((state p.new).forest ≡ node (state p.old).forest TOKEN_TREE (last_children (state p.new).forest)) }
     ensures script { OnOk result
-        ((depth : ℕ) → (state p.old).left ≤ depth → Does depth script.token_tree something (state p.old)
-        (state p.new)) }
+        ((depth : ℕ) → (state p.old).left ≤ depth → Executes depth script.token_tree p.old p.new) }
     ensures balanced { OnOk result (NestsAsBrackets (state p.old) (state p.new)) }
 {
     let ket = closing_bracket(p.current());

@@ -6,9 +6,8 @@ ghost use Rattle.rap_events.specs.State.{state, next};
 ghost use Rattle.rap_grammar_scripts.specs.ConstArgs as script;
 ghost use Rattle.rap_grammar_scripts.specs.First.{is_path_start};
 ghost use Rattle.rap_grammar_frame.specs.Grew.{Within};
-ghost use Rattle.rap_grammar_scripts.specs.Exec.{Does};
-ghost use Rattle.rap_grammar_facts.specs.Alone.{DoesAlone};
-ghost use Rattle.rap_grammar_scripts.specs.Script.{something};
+ghost use Rattle.rap_grammar_scripts.specs.Exec.{Executes};
+ghost use Rattle.rap_grammar_facts.specs.Alone.{ExecutesAlone};
 ghost use Rattle.rap_grammar_scripts.specs.Test.{holds};
 
 use rap_base::T;
@@ -25,8 +24,8 @@ use rap_grammar_paths::paths::expr_path;
 /// A constant as an argument, as `1`, `-1`, `{ a }` and `a::b`.
 #[tactic(auto, using(rap_grammar_facts::proofs::ConstArgs::facts), unfolding(rap_grammar_scripts::specs::ConstArgs::const_arg))]
 pub fn const_arg<G: Grammar>(p: &mut Parser<'_>, g: &G) -> Result<(), NoMemory>
-    requires within { Within G.valid G.left g.now (state p.old) }
-    ensures script { OnOk result (Does (G.left g.now) script.const_arg something (state p.old) (state p.new)) }
+    requires within { Within G.valid G.left g.now p.old }
+    ensures script { OnOk result (Executes (G.left g.now) script.const_arg p.old p.new) }
 {
     let m = p.start()?;
     const_arg_expr(p, g)?;
@@ -37,9 +36,8 @@ pub fn const_arg<G: Grammar>(p: &mut Parser<'_>, g: &G) -> Result<(), NoMemory>
 /// The expression of a constant.
 #[tactic(auto, unfolding(rap_grammar_scripts::specs::ConstArgs::const_arg_expr))]
 fn const_arg_expr<G: Grammar>(p: &mut Parser<'_>, g: &G) -> Result<(), NoMemory>
-    requires within { Within G.valid G.left g.now (state p.old) }
-    ensures script { OnOk result
-        (Does (G.left g.now) script.const_arg_expr something (state p.old) (state p.new)) }
+    requires within { Within G.valid G.left g.now p.old }
+    ensures script { OnOk result (Executes (G.left g.now) script.const_arg_expr p.old p.new) }
 {
     if p.current() == T!['{'] {
         block_expr(p, g)?;
@@ -64,9 +62,9 @@ fn const_arg_expr<G: Grammar>(p: &mut Parser<'_>, g: &G) -> Result<(), NoMemory>
 /// A path as a constant, as `a::b`.
 #[tactic(auto, using(rap_grammar_facts::proofs::Paths::took_expr_path), unfolding(rap_grammar_scripts::specs::ConstArgs::const_path))]
 fn const_path<G: Grammar>(p: &mut Parser<'_>, g: &G) -> Result<CompletedMarker, NoMemory>
-    requires within { Within G.valid G.left g.now (state p.old) }
+    requires within { Within G.valid G.left g.now p.old }
     requires path { holds is_path_start (state p.old).rest ≡ true }
-    ensures script { OnOk result (Does (G.left g.now) script.const_path something (state p.old) (state p.new)) }
+    ensures script { OnOk result (Executes (G.left g.now) script.const_path p.old p.new) }
 {
     let m = p.start()?;
     expr_path(p, g)?;
@@ -78,8 +76,7 @@ fn const_path<G: Grammar>(p: &mut Parser<'_>, g: &G) -> Result<CompletedMarker, 
 #[tactic(auto, unfolding(rap_grammar_scripts::specs::ConstArgs::negative_const))]
 fn negative_const(p: &mut Parser<'_>) -> Result<(), NoMemory>
     requires here { next (state p.old) ≡ MINUS }
-    ensures script { OnOk result
-        (DoesAlone script.negative_const something (state p.old) (state p.new)) }
+    ensures script { OnOk result (ExecutesAlone script.negative_const p.old p.new) }
 {
     let m = p.start()?;
     p.bump(T![-])?;
@@ -93,8 +90,7 @@ fn negative_const(p: &mut Parser<'_>) -> Result<(), NoMemory>
 #[inline(never)]
 #[tactic(auto, unfolding(rap_grammar_scripts::specs::ConstArgs::missing_const))]
 fn missing_const(p: &mut Parser<'_>) -> Result<(), NoMemory>
-    ensures script { OnOk result
-        (DoesAlone script.missing_const something (state p.old) (state p.new)) }
+    ensures script { OnOk result (ExecutesAlone script.missing_const p.old p.new) }
 {
     p.err_recover(
         "expected a generic const argument",

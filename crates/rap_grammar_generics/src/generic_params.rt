@@ -6,10 +6,9 @@ ghost use Rattle.rap_events.specs.State.{state, next, NthAt};
 ghost use Rattle.rap_grammar_scripts.specs.First.{is_where_predicate_first};
 ghost use Rattle.rap_grammar_scripts.specs.GenericParams as script;
 ghost use Rattle.rap_grammar_frame.specs.Grew.{Within, Grew, Took, Behind, Closes};
-ghost use Rattle.rap_grammar_scripts.specs.Exec.{Does};
-ghost use Rattle.rap_grammar_facts.specs.Alone.{DoesAlone, DoesDeep};
+ghost use Rattle.rap_grammar_scripts.specs.Exec.{Does, Executes};
+ghost use Rattle.rap_grammar_facts.specs.Alone.{DoesAlone, ExecutesAlone, ExecutesDeep};
 ghost use Rattle.rap_grammar_frame.specs.Room.{list_room};
-ghost use Rattle.rap_grammar_scripts.specs.Script.{something};
 ghost use Rattle.rap_grammar_scripts.specs.Words.{of_bool};
 
 use crate::const_args::const_arg;
@@ -29,9 +28,9 @@ use rap_grammar_frame::token_tree::token_tree;
 /// Generic parameters, as `<'a, T: A, const N: b>`.
 #[tactic(auto, unfolding(rap_grammar_scripts::specs::GenericParams::generic_param_list, rap_grammar_scripts::specs::GenericParams::generic_params))]
 pub fn generic_param_list<G: Grammar>(p: &mut Parser<'_>, g: &G) -> Result<(), NoMemory>
-    requires within { Within G.valid G.left g.now (state p.old) }
+    requires within { Within G.valid G.left g.now p.old }
     requires here { next (state p.old) ≡ L_ANGLE }
-    ensures script { OnOk result (Does (G.left g.now) script.generic_param_list something (state p.old) (state p.new)) }
+    ensures script { OnOk result (Executes (G.left g.now) script.generic_param_list p.old p.new) }
 {
     let m = p.start()?;
     delimited(
@@ -73,7 +72,7 @@ impl Element for GenericParam {
 /// A parameter from its marker on. Returns whether there is one.
 #[tactic(auto, unfolding(rap_grammar_scripts::specs::GenericParams::generic_param))]
 fn generic_param<G: Grammar>(p: &mut Parser<'_>, g: &G, m: Marker) -> Result<bool, NoMemory>
-    requires behind { Behind G.valid G.left g.now (state p.old) }
+    requires behind { Behind G.valid G.left g.now p.old }
     requires newest { (state p.old).marker ≡ Some m.pos.value }
     ensures script { IfOk result
         (λ found. Does (G.left g.now) script.generic_param (of_bool found) (state p.old) (state p.new)) }
@@ -102,10 +101,10 @@ fn generic_param<G: Grammar>(p: &mut Parser<'_>, g: &G, m: Marker) -> Result<boo
 /// A lifetime as a parameter, as `'a: 'b`.
 #[tactic(auto, unfolding(rap_grammar_scripts::specs::GenericParams::lifetime_param))]
 fn lifetime_param<G: Grammar>(p: &mut Parser<'_>, g: &G, m: Marker) -> Result<(), NoMemory>
-    requires behind { Behind G.valid G.left g.now (state p.old) }
+    requires behind { Behind G.valid G.left g.now p.old }
     requires newest { (state p.old).marker ≡ Some m.pos.value }
     requires here { next (state p.old) ≡ LIFETIME_IDENT }
-    ensures script { OnOk result (Does (G.left g.now) script.lifetime_param something (state p.old) (state p.new)) }
+    ensures script { OnOk result (Executes (G.left g.now) script.lifetime_param p.old p.new) }
 {
     lifetime(p)?;
     if p.eat(T![:])? {
@@ -118,10 +117,10 @@ fn lifetime_param<G: Grammar>(p: &mut Parser<'_>, g: &G, m: Marker) -> Result<()
 /// A type as a parameter, as `T: A = b`.
 #[tactic(auto, unfolding(rap_grammar_scripts::specs::GenericParams::type_param, rap_grammar_scripts::specs::GenericParams::type_default))]
 fn type_param<G: Grammar>(p: &mut Parser<'_>, g: &G, m: Marker) -> Result<(), NoMemory>
-    requires behind { Behind G.valid G.left g.now (state p.old) }
+    requires behind { Behind G.valid G.left g.now p.old }
     requires newest { (state p.old).marker ≡ Some m.pos.value }
     requires here { next (state p.old) ≡ IDENT }
-    ensures script { OnOk result (Does (G.left g.now) script.type_param something (state p.old) (state p.new)) }
+    ensures script { OnOk result (Executes (G.left g.now) script.type_param p.old p.new) }
 {
     name(p)?;
     if p.at(T![:]) {
@@ -138,10 +137,10 @@ fn type_param<G: Grammar>(p: &mut Parser<'_>, g: &G, m: Marker) -> Result<(), No
 /// A constant as a parameter, as `const N: a = 1`.
 #[tactic(auto, using(rap_grammar_facts::proofs::GenericParams::facts), unfolding(rap_grammar_scripts::specs::GenericParams::const_param))]
 fn const_param<G: Grammar>(p: &mut Parser<'_>, g: &G, m: Marker) -> Result<(), NoMemory>
-    requires behind { Behind G.valid G.left g.now (state p.old) }
+    requires behind { Behind G.valid G.left g.now p.old }
     requires newest { (state p.old).marker ≡ Some m.pos.value }
     requires here { next (state p.old) ≡ CONST_KW }
-    ensures script { OnOk result (Does (G.left g.now) script.const_param something (state p.old) (state p.new)) }
+    ensures script { OnOk result (Executes (G.left g.now) script.const_param p.old p.new) }
 {
     p.bump(T![const])?;
     name(p)?;
@@ -154,8 +153,8 @@ fn const_param<G: Grammar>(p: &mut Parser<'_>, g: &G, m: Marker) -> Result<(), N
 /// The type of a constant, as `: a`. Where it is missing, that is reported.
 #[tactic(auto, unfolding(rap_grammar_scripts::specs::GenericParams::const_type))]
 fn const_type<G: Grammar>(p: &mut Parser<'_>, g: &G) -> Result<(), NoMemory>
-    requires behind { Behind G.valid G.left g.now (state p.old) }
-    ensures script { OnOk result (Does (G.left g.now) script.const_type something (state p.old) (state p.new)) }
+    requires behind { Behind G.valid G.left g.now p.old }
+    ensures script { OnOk result (Executes (G.left g.now) script.const_type p.old p.new) }
 {
     if p.at(T![:]) {
         ascription(p, g)?;
@@ -168,8 +167,8 @@ fn const_type<G: Grammar>(p: &mut Parser<'_>, g: &G) -> Result<(), NoMemory>
 /// The default of a constant, as `= 1`, if there is one.
 #[tactic(auto, unfolding(rap_grammar_scripts::specs::GenericParams::const_default))]
 fn const_default<G: Grammar>(p: &mut Parser<'_>, g: &G) -> Result<(), NoMemory>
-    requires behind { Behind G.valid G.left g.now (state p.old) }
-    ensures script { OnOk result (Does (G.left g.now) script.const_default something (state p.old) (state p.new)) }
+    requires behind { Behind G.valid G.left g.now p.old }
+    ensures script { OnOk result (Executes (G.left g.now) script.const_default p.old p.new) }
 {
     if p.eat(T![=])? {
         const_arg(p, g)?;
@@ -180,9 +179,9 @@ fn const_default<G: Grammar>(p: &mut Parser<'_>, g: &G) -> Result<(), NoMemory>
 /// What a lifetime outlives, as the `'b + 'c` of `'a: 'b + 'c`.
 #[tactic(auto, using(rap_grammar_facts::proofs::GenericParams::facts), unfolding(rap_grammar_scripts::specs::GenericParams::lifetime_bounds))]
 fn lifetime_bounds<G: Grammar>(p: &mut Parser<'_>, g: &G) -> Result<(), NoMemory>
-    requires within { Within G.valid G.left g.now (state p.old) }
+    requires within { Within G.valid G.left g.now p.old }
     ensures grew { OnOk result (Grew (state p.old) (state p.new) 16) }
-    ensures script { OnOk result (Does (G.left g.now) script.lifetime_bounds something (state p.old) (state p.new)) }
+    ensures script { OnOk result (Executes (G.left g.now) script.lifetime_bounds p.old p.new) }
 {
     let m = p.start()?;
     lifetime_bound_list(p, g)?;
@@ -193,9 +192,8 @@ fn lifetime_bounds<G: Grammar>(p: &mut Parser<'_>, g: &G) -> Result<(), NoMemory
 /// A lifetime's bounds with `+` between them.
 #[tactic(auto, using(rap_grammar_facts::proofs::GenericParams::facts, rap_grammar_frame::proofs::Loops::turns), unfolding(rap_grammar_scripts::specs::GenericParams::lifetime_bound_list))]
 fn lifetime_bound_list<G: Grammar>(p: &mut Parser<'_>, g: &G) -> Result<(), NoMemory>
-    requires within { Within G.valid G.left g.now (state p.old) }
-    ensures script { OnOk result
-        (Does (G.left g.now) script.lifetime_bound_list something (state p.old) (state p.new)) }
+    requires within { Within G.valid G.left g.now p.old }
+    ensures script { OnOk result (Executes (G.left g.now) script.lifetime_bound_list p.old p.new) }
 {
     'bounds: while lifetime_bound(p, g)? {
         if !p.eat(T![+])? {
@@ -208,7 +206,7 @@ fn lifetime_bound_list<G: Grammar>(p: &mut Parser<'_>, g: &G) -> Result<(), NoMe
 /// A lifetime's bound. One that is no lifetime is reported. Returns whether there is one.
 #[tactic(auto, using(rap_grammar_frame::proofs::Steps::by_report), unfolding(rap_grammar_scripts::specs::GenericParams::lifetime_bound))]
 fn lifetime_bound<G: Grammar>(p: &mut Parser<'_>, g: &G) -> Result<bool, NoMemory>
-    requires within { Within G.valid G.left g.now (state p.old) }
+    requires within { Within G.valid G.left g.now p.old }
     ensures script { IfOk result
         (λ found. Does (G.left g.now) script.lifetime_bound (of_bool found) (state p.old) (state p.new)) }
 {
@@ -224,10 +222,10 @@ fn lifetime_bound<G: Grammar>(p: &mut Parser<'_>, g: &G) -> Result<bool, NoMemor
 /// Bounds with their colon, as `: 'a + A`.
 #[tactic(auto, unfolding(rap_grammar_scripts::specs::GenericParams::bounds))]
 pub fn bounds<G: Grammar>(p: &mut Parser<'_>, g: &G) -> Result<(), NoMemory>
-    requires within { Within G.valid G.left g.now (state p.old) }
+    requires within { Within G.valid G.left g.now p.old }
     requires here { next (state p.old) ≡ COLON }
     ensures took { OnOk result (Took (state p.old) (state p.new) list_room) }
-    ensures script { OnOk result (Does (G.left g.now) script.bounds something (state p.old) (state p.new)) }
+    ensures script { OnOk result (Executes (G.left g.now) script.bounds p.old p.new) }
 {
     p.bump(T![:])?;
     bounds_without_colon(p, g)?;
@@ -237,10 +235,9 @@ pub fn bounds<G: Grammar>(p: &mut Parser<'_>, g: &G) -> Result<(), NoMemory>
 /// Bounds, as `'a + ?A + for<'b> B`.
 #[tactic(auto, unfolding(rap_grammar_scripts::specs::GenericParams::bounds_without_colon))]
 pub fn bounds_without_colon<G: Grammar>(p: &mut Parser<'_>, g: &G) -> Result<(), NoMemory>
-    requires within { Within G.valid G.left g.now (state p.old) }
+    requires within { Within G.valid G.left g.now p.old }
     ensures grew { OnOk result (Grew (state p.old) (state p.new) 16) }
-    ensures script { OnOk result
-        (Does (G.left g.now) script.bounds_without_colon something (state p.old) (state p.new)) }
+    ensures script { OnOk result (Executes (G.left g.now) script.bounds_without_colon p.old p.new) }
 {
     let m = p.start()?;
     bounds_without_colon_m(p, g, m)?;
@@ -254,11 +251,10 @@ pub fn bounds_without_colon_m<G: Grammar>(
     g: &G,
     m: Marker,
 ) -> Result<CompletedMarker, NoMemory>
-    requires within { Within G.valid G.left g.now (state p.old) }
+    requires within { Within G.valid G.left g.now p.old }
     requires newest { (state p.old).marker ≡ Some m.pos.value }
     ensures closes { IfOk result (Closes TYPE_BOUND_LIST 12 (state p.old) (state p.new)) }
-    ensures script { OnOk result
-        (Does (G.left g.now) script.bounds_without_colon_m something (state p.old) (state p.new)) }
+    ensures script { OnOk result (Executes (G.left g.now) script.bounds_without_colon_m p.old p.new) }
 {
     type_bounds(p, g)?;
     let cm = m.complete(p, SyntaxKind::TYPE_BOUND_LIST)?;
@@ -268,8 +264,8 @@ pub fn bounds_without_colon_m<G: Grammar>(
 /// Bounds with `+` between them.
 #[tactic(auto, using(rap_grammar_facts::proofs::GenericParams::facts, rap_grammar_frame::proofs::Loops::turns), unfolding(rap_grammar_scripts::specs::GenericParams::type_bounds))]
 fn type_bounds<G: Grammar>(p: &mut Parser<'_>, g: &G) -> Result<(), NoMemory>
-    requires within { Within G.valid G.left g.now (state p.old) }
-    ensures script { OnOk result (Does (G.left g.now) script.type_bounds something (state p.old) (state p.new)) }
+    requires within { Within G.valid G.left g.now p.old }
+    ensures script { OnOk result (Executes (G.left g.now) script.type_bounds p.old p.new) }
 {
     'bounds: while type_bound(p, g)? {
         if !p.eat(T![+])? {
@@ -282,7 +278,7 @@ fn type_bounds<G: Grammar>(p: &mut Parser<'_>, g: &G) -> Result<(), NoMemory>
 /// A bound, as `'a`, `A` and `(?A)`. Returns whether there is one.
 #[tactic(auto, using(rap_grammar_facts::proofs::GenericParams::facts), unfolding(rap_grammar_scripts::specs::GenericParams::type_bound))]
 fn type_bound<G: Grammar>(p: &mut Parser<'_>, g: &G) -> Result<bool, NoMemory>
-    requires within { Within G.valid G.left g.now (state p.old) }
+    requires within { Within G.valid G.left g.now p.old }
     ensures script { IfOk result
         (λ found. Does (G.left g.now) script.type_bound (of_bool found) (state p.old) (state p.new)) }
 {
@@ -302,7 +298,7 @@ fn type_bound<G: Grammar>(p: &mut Parser<'_>, g: &G) -> Result<bool, NoMemory>
 /// A bound without its parentheses, as `'a`, `for<'a> A<'a>` and `use<'a, T>`. Returns whether there is one.
 #[tactic(auto, using(rap_grammar_facts::proofs::GenericParams::facts), unfolding(rap_grammar_scripts::specs::GenericParams::bare_bound))]
 fn bare_bound<G: Grammar>(p: &mut Parser<'_>, g: &G) -> Result<bool, NoMemory>
-    requires within { Within G.valid G.left g.now (state p.old) }
+    requires within { Within G.valid G.left g.now p.old }
     ensures script { IfOk result
         (λ found. Does (G.left g.now) script.bare_bound (of_bool found) (state p.old) (state p.new)) }
 {
@@ -330,10 +326,10 @@ fn bare_bound<G: Grammar>(p: &mut Parser<'_>, g: &G) -> Result<bool, NoMemory>
 /// What a type captures, as `use<'a, T>`.
 #[tactic(auto, unfolding(rap_grammar_scripts::specs::GenericParams::use_bound, rap_grammar_scripts::specs::GenericParams::use_bound_args))]
 fn use_bound<G: Grammar>(p: &mut Parser<'_>, g: &G) -> Result<(), NoMemory>
-    requires within { Within G.valid G.left g.now (state p.old) }
+    requires within { Within G.valid G.left g.now p.old }
     requires here { next (state p.old) ≡ USE_KW }
     requires args { NthAt (state p.old) 1 L_ANGLE }
-    ensures script { OnOk result (Does (G.left g.now) script.use_bound something (state p.old) (state p.new)) }
+    ensures script { OnOk result (Executes (G.left g.now) script.use_bound p.old p.new) }
 {
     p.bump(T![use])?;
     let m = p.start()?;
@@ -379,7 +375,7 @@ impl Element for UseBoundArg {
 /// A trait as a bound, as `A`, `?A` and `const async A`. Returns whether there is one.
 #[tactic(auto, using(rap_grammar_facts::proofs::GenericParams::facts), unfolding(rap_grammar_scripts::specs::GenericParams::path_type_bound))]
 fn path_type_bound<G: Grammar>(p: &mut Parser<'_>, g: &G) -> Result<bool, NoMemory>
-    requires within { Within G.valid G.left g.now (state p.old) }
+    requires within { Within G.valid G.left g.now p.old }
     ensures script { IfOk result
         (λ found. Does (G.left g.now) script.path_type_bound (of_bool found) (state p.old) (state p.new)) }
 {
@@ -399,8 +395,7 @@ fn path_type_bound<G: Grammar>(p: &mut Parser<'_>, g: &G) -> Result<bool, NoMemo
 /// The `const` before a trait, as `const`, `~const` and `[const]`, if there is one.
 #[tactic(auto, unfolding(rap_grammar_scripts::specs::GenericParams::bound_constness))]
 fn bound_constness(p: &mut Parser<'_>) -> Result<(), NoMemory>
-    ensures script { OnOk result
-        (DoesAlone script.bound_constness something (state p.old) (state p.new)) }
+    ensures script { OnOk result (ExecutesAlone script.bound_constness p.old p.new) }
 {
     if p.eat(T![~])? {
         p.expect(T![const])?;
@@ -419,9 +414,7 @@ fn bound_constness(p: &mut Parser<'_>) -> Result<(), NoMemory>
 #[tactic(auto, unfolding(rap_grammar_scripts::specs::GenericParams::bound_macro_call))]
 fn bound_macro_call(p: &mut Parser<'_>) -> Result<(), NoMemory>
     requires { next (state p.old) ≡ BANG }
-    ensures script { OnOk result
-        (DoesDeep script.bound_macro_call something (state p.old)
-        (state p.new)) }
+    ensures script { OnOk result (ExecutesDeep script.bound_macro_call p.old p.new) }
 {
     let m = p.start()?;
     p.bump(T![!])?;
@@ -438,9 +431,9 @@ fn bound_macro_call(p: &mut Parser<'_>) -> Result<(), NoMemory>
 /// A `where` clause, as `where 'a: 'b, T: A`.
 #[tactic(auto, using(rap_grammar_facts::proofs::GenericParams::facts), unfolding(rap_grammar_scripts::specs::GenericParams::where_clause))]
 pub fn where_clause<G: Grammar>(p: &mut Parser<'_>, g: &G) -> Result<(), NoMemory>
-    requires within { Within G.valid G.left g.now (state p.old) }
+    requires within { Within G.valid G.left g.now p.old }
     requires here { next (state p.old) ≡ WHERE_KW }
-    ensures script { OnOk result (Does (G.left g.now) script.where_clause something (state p.old) (state p.new)) }
+    ensures script { OnOk result (Executes (G.left g.now) script.where_clause p.old p.new) }
 {
     let m = p.start()?;
     p.bump(T![where])?;
@@ -452,8 +445,8 @@ pub fn where_clause<G: Grammar>(p: &mut Parser<'_>, g: &G) -> Result<(), NoMemor
 /// The predicates of a `where`, with commas between them.
 #[tactic(auto, using(rap_grammar_facts::proofs::GenericParams::facts, rap_grammar_frame::proofs::Loops::turns), unfolding(rap_grammar_scripts::specs::GenericParams::where_predicates))]
 fn where_predicates<G: Grammar>(p: &mut Parser<'_>, g: &G) -> Result<(), NoMemory>
-    requires behind { Behind G.valid G.left g.now (state p.old) }
-    ensures script { OnOk result (Does (G.left g.now) script.where_predicates something (state p.old) (state p.new)) }
+    requires behind { Behind G.valid G.left g.now p.old }
+    ensures script { OnOk result (Executes (G.left g.now) script.where_predicates p.old p.new) }
 {
     'predicates: while is_where_predicate(p.current()) {
         where_predicate(p, g)?;
@@ -490,8 +483,8 @@ fn after_predicate(p: &mut Parser<'_>) -> Result<bool, NoMemory>
 /// A predicate of a `where`, as `'a: 'b`, `T: A` and `for<'a> T: A<'a>`.
 #[tactic(auto, unfolding(rap_grammar_scripts::specs::GenericParams::where_predicate))]
 fn where_predicate<G: Grammar>(p: &mut Parser<'_>, g: &G) -> Result<(), NoMemory>
-    requires behind { Behind G.valid G.left g.now (state p.old) }
-    ensures script { OnOk result (Does (G.left g.now) script.where_predicate something (state p.old) (state p.new)) }
+    requires behind { Behind G.valid G.left g.now p.old }
+    ensures script { OnOk result (Executes (G.left g.now) script.where_predicate p.old p.new) }
 {
     let m = p.start()?;
     match p.current() {
@@ -513,9 +506,9 @@ fn where_predicate<G: Grammar>(p: &mut Parser<'_>, g: &G) -> Result<(), NoMemory
 /// A predicate about a type, as `for<'a> T: A<'a>`.
 #[tactic(auto, using(rap_grammar_facts::proofs::GenericParams::facts), unfolding(rap_grammar_scripts::specs::GenericParams::type_predicate))]
 fn type_predicate<G: Grammar>(p: &mut Parser<'_>, g: &G) -> Result<(), NoMemory>
-    requires behind { Behind G.valid G.left g.now (state p.old) }
+    requires behind { Behind G.valid G.left g.now p.old }
     ensures grew { OnOk result (Grew (state p.old) (state p.new) 21) }
-    ensures script { OnOk result (Does (G.left g.now) script.type_predicate something (state p.old) (state p.new)) }
+    ensures script { OnOk result (Executes (G.left g.now) script.type_predicate p.old p.new) }
 {
     if p.at(T![for]) {
         for_binder(p, g)?;
@@ -528,9 +521,9 @@ fn type_predicate<G: Grammar>(p: &mut Parser<'_>, g: &G) -> Result<(), NoMemory>
 /// The bounds of what a predicate is about, as the `: A` of `T: A`.
 #[tactic(auto, unfolding(rap_grammar_scripts::specs::GenericParams::predicate_bounds))]
 fn predicate_bounds<G: Grammar>(p: &mut Parser<'_>, g: &G) -> Result<(), NoMemory>
-    requires within { Within G.valid G.left g.now (state p.old) }
+    requires within { Within G.valid G.left g.now p.old }
     ensures grew { OnOk result (Grew (state p.old) (state p.new) 1) }
-    ensures script { OnOk result (Does (G.left g.now) script.predicate_bounds something (state p.old) (state p.new)) }
+    ensures script { OnOk result (Executes (G.left g.now) script.predicate_bounds p.old p.new) }
 {
     if p.at(T![:]) {
         bounds(p, g)?;

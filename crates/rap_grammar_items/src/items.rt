@@ -7,8 +7,8 @@ ghost use Rattle.rap_grammar_scripts.specs.First.{one_of};
 ghost use Rattle.rap_grammar_frame.specs.Grew.{Within};
 ghost use Rattle.rap_grammar_scripts.specs.Items as script;
 ghost use Rattle.rap_grammar_items.specs.ItemEnds.{of_item, HandsBack};
-ghost use Rattle.rap_grammar_facts.specs.Alone.{DoesAlone};
-ghost use Rattle.rap_grammar_scripts.specs.Exec.{Does};
+ghost use Rattle.rap_grammar_facts.specs.Alone.{ExecutesAlone};
+ghost use Rattle.rap_grammar_scripts.specs.Exec.{Does, Executes};
 ghost use Rattle.rap_grammar_scripts.specs.Script.{something};
 ghost use Rattle.rap_grammar_scripts.specs.Test.{holds};
 ghost use Rattle.rap_grammar_scripts.specs.Words.{next_is};
@@ -34,15 +34,15 @@ use rap_grammar_items_kinds::use_item::use_;
 use rap_grammar_paths::paths::use_path;
 use rap_grammar_paths::visibility::opt_visibility;
 
-/// An item from the newest marker on, if one comes next; else the marker is handed back.
+/// An item from the newest marker on, if one comes next, and `None`; else the marker is handed back.
 #[tactic(auto, using(rap_grammar_facts::proofs::Items::fewer_opt_item_without_modifiers), unfolding(rap_grammar_scripts::specs::Items::opt_item))]
 pub fn opt_item<G: Grammar>(
     p: &mut Parser<'_>,
     g: &G,
     m: Marker,
     is_in_extern: bool,
-) -> Result<Result<(), Marker>, NoMemory>
-    requires within { Within G.valid G.left g.now (state p.old) }
+) -> Result<Option<Marker>, NoMemory>
+    requires within { Within G.valid G.left g.now p.old }
     requires newest { (state p.old).marker ≡ Some m.pos.value }
     ensures newest { IfOk result (HandsBack (state p.new)) }
     ensures script { IfOk result
@@ -50,8 +50,8 @@ pub fn opt_item<G: Grammar>(
 {
     let has_visibility = opt_visibility(p, g, false)?;
     match opt_item_without_modifiers(p, g, m)? {
-        Ok(()) => Ok(Ok(())),
-        Err(m) => {
+        None => Ok(None),
+        Some(m) => {
             let item = opt_modified_item(p, g, m, has_visibility, is_in_extern)?;
             Ok(item)
         }
@@ -66,8 +66,8 @@ fn opt_modified_item<G: Grammar>(
     m: Marker,
     has_visibility: bool,
     is_in_extern: bool,
-) -> Result<Result<(), Marker>, NoMemory>
-    requires within { Within G.valid G.left g.now (state p.old) }
+) -> Result<Option<Marker>, NoMemory>
+    requires within { Within G.valid G.left g.now p.old }
     requires newest { (state p.old).marker ≡ Some m.pos.value }
     ensures newest { IfOk result (HandsBack (state p.new)) }
     ensures script { IfOk result
@@ -76,8 +76,8 @@ fn opt_modified_item<G: Grammar>(
 {
     let found = modifiers(p, g, is_in_extern)?;
     match opt_item_with_modifiers(p, g, m, found.has_extern)? {
-        Ok(()) => Ok(Ok(())),
-        Err(m) => {
+        None => Ok(None),
+        Some(m) => {
             let item = refuse(p, m, has_visibility, found.has_mods)?;
             Ok(item)
         }
@@ -91,7 +91,7 @@ fn refuse(
     m: Marker,
     has_visibility: bool,
     has_mods: bool,
-) -> Result<Result<(), Marker>, NoMemory>
+) -> Result<Option<Marker>, NoMemory>
     requires newest { (state p.old).marker ≡ Some m.pos.value }
     ensures newest { IfOk result (HandsBack (state p.new)) }
     ensures script { IfOk result
@@ -101,14 +101,14 @@ fn refuse(
     if has_mods {
         p.error("expected fn, trait or impl")?;
         m.complete(p, SyntaxKind::ERROR)?;
-        return Ok(Ok(()));
+        return Ok(None);
     }
     if has_visibility {
         p.error("expected an item")?;
         m.complete(p, SyntaxKind::ERROR)?;
-        return Ok(Ok(()));
+        return Ok(None);
     }
-    Ok(Err(m))
+    Ok(Some(m))
 }
 
 /// An item that begins with a keyword of its own, or with a name that is read as one.
@@ -117,8 +117,8 @@ fn opt_item_without_modifiers<G: Grammar>(
     p: &mut Parser<'_>,
     g: &G,
     m: Marker,
-) -> Result<Result<(), Marker>, NoMemory>
-    requires within { Within G.valid G.left g.now (state p.old) }
+) -> Result<Option<Marker>, NoMemory>
+    requires within { Within G.valid G.left g.now p.old }
     requires newest { (state p.old).marker ≡ Some m.pos.value }
     ensures newest { IfOk result (HandsBack (state p.new)) }
     ensures script { IfOk result
@@ -128,38 +128,38 @@ fn opt_item_without_modifiers<G: Grammar>(
         T![extern] => opt_extern_crate(p, m),
         T![use] => {
             use_(p, g, m)?;
-            Ok(Ok(()))
+            Ok(None)
         }
         T![mod] => {
             mod_item(p, g, m)?;
-            Ok(Ok(()))
+            Ok(None)
         }
         T![type] => {
             type_item(p, g, m)?;
-            Ok(Ok(()))
+            Ok(None)
         }
         T![struct] => {
             strukt(p, g, m)?;
-            Ok(Ok(()))
+            Ok(None)
         }
         T![enum] => {
             enum_(p, g, m)?;
-            Ok(Ok(()))
+            Ok(None)
         }
         T![macro] => {
             macro_def(p, m)?;
-            Ok(Ok(()))
+            Ok(None)
         }
         T![const] => opt_named_const(p, g, m),
         T![static] => opt_static(p, g, m),
         T![ident] => opt_item_by_name(p, g, m),
-        _ => Ok(Err(m)),
+        _ => Ok(Some(m)),
     }
 }
 
 /// A crate's name, as `extern crate a;`, if `crate` follows.
 #[tactic(auto, unfolding(rap_grammar_scripts::specs::Items::opt_extern_crate))]
-fn opt_extern_crate(p: &mut Parser<'_>, m: Marker) -> Result<Result<(), Marker>, NoMemory>
+fn opt_extern_crate(p: &mut Parser<'_>, m: Marker) -> Result<Option<Marker>, NoMemory>
     requires newest { (state p.old).marker ≡ Some m.pos.value }
     requires here { next (state p.old) ≡ EXTERN_KW }
     ensures newest { IfOk result (HandsBack (state p.new)) }
@@ -167,10 +167,10 @@ fn opt_extern_crate(p: &mut Parser<'_>, m: Marker) -> Result<Result<(), Marker>,
         (λ item. (depth : ℕ) → Does depth script.opt_extern_crate (of_item item) (state p.old) (state p.new)) }
 {
     if !p.nth_at(1, T![crate]) {
-        return Ok(Err(m));
+        return Ok(Some(m));
     }
     extern_crate(p, m)?;
-    Ok(Ok(()))
+    Ok(None)
 }
 
 /// Whether what may stand after the keyword of a constant or a static does so.
@@ -186,8 +186,8 @@ fn opt_named_const<G: Grammar>(
     p: &mut Parser<'_>,
     g: &G,
     m: Marker,
-) -> Result<Result<(), Marker>, NoMemory>
-    requires within { Within G.valid G.left g.now (state p.old) }
+) -> Result<Option<Marker>, NoMemory>
+    requires within { Within G.valid G.left g.now p.old }
     requires newest { (state p.old).marker ≡ Some m.pos.value }
     requires here { next (state p.old) ≡ CONST_KW }
     ensures newest { IfOk result (HandsBack (state p.new)) }
@@ -195,20 +195,16 @@ fn opt_named_const<G: Grammar>(
         (λ item. Does (G.left g.now) script.opt_named_const (of_item item) (state p.old) (state p.new)) }
 {
     if !is_named(p) {
-        return Ok(Err(m));
+        return Ok(Some(m));
     }
     konst(p, g, m)?;
-    Ok(Ok(()))
+    Ok(None)
 }
 
 /// A constant after modifiers, if its `const` begins no block.
 #[tactic(auto, unfolding(rap_grammar_scripts::specs::Items::opt_const))]
-fn opt_const<G: Grammar>(
-    p: &mut Parser<'_>,
-    g: &G,
-    m: Marker,
-) -> Result<Result<(), Marker>, NoMemory>
-    requires within { Within G.valid G.left g.now (state p.old) }
+fn opt_const<G: Grammar>(p: &mut Parser<'_>, g: &G, m: Marker) -> Result<Option<Marker>, NoMemory>
+    requires within { Within G.valid G.left g.now p.old }
     requires newest { (state p.old).marker ≡ Some m.pos.value }
     requires here { next (state p.old) ≡ CONST_KW }
     ensures newest { IfOk result (HandsBack (state p.new)) }
@@ -216,20 +212,16 @@ fn opt_const<G: Grammar>(
         (λ item. Does (G.left g.now) script.opt_const (of_item item) (state p.old) (state p.new)) }
 {
     if p.nth(1) == T!['{'] {
-        return Ok(Err(m));
+        return Ok(Some(m));
     }
     konst(p, g, m)?;
-    Ok(Ok(()))
+    Ok(None)
 }
 
 /// A static, if its name follows.
 #[tactic(auto, unfolding(rap_grammar_scripts::specs::Items::opt_static))]
-fn opt_static<G: Grammar>(
-    p: &mut Parser<'_>,
-    g: &G,
-    m: Marker,
-) -> Result<Result<(), Marker>, NoMemory>
-    requires within { Within G.valid G.left g.now (state p.old) }
+fn opt_static<G: Grammar>(p: &mut Parser<'_>, g: &G, m: Marker) -> Result<Option<Marker>, NoMemory>
+    requires within { Within G.valid G.left g.now p.old }
     requires newest { (state p.old).marker ≡ Some m.pos.value }
     requires here { next (state p.old) ≡ STATIC_KW }
     ensures newest { IfOk result (HandsBack (state p.new)) }
@@ -237,10 +229,10 @@ fn opt_static<G: Grammar>(
         (λ item. Does (G.left g.now) script.opt_static (of_item item) (state p.old) (state p.new)) }
 {
     if !is_named(p) {
-        return Ok(Err(m));
+        return Ok(Some(m));
     }
     static_(p, g, m)?;
-    Ok(Ok(()))
+    Ok(None)
 }
 
 /// Whether a `union` comes next that is read as the keyword.
@@ -275,8 +267,8 @@ fn opt_item_by_name<G: Grammar>(
     p: &mut Parser<'_>,
     g: &G,
     m: Marker,
-) -> Result<Result<(), Marker>, NoMemory>
-    requires within { Within G.valid G.left g.now (state p.old) }
+) -> Result<Option<Marker>, NoMemory>
+    requires within { Within G.valid G.left g.now p.old }
     requires newest { (state p.old).marker ≡ Some m.pos.value }
     ensures newest { IfOk result (HandsBack (state p.new)) }
     ensures script { IfOk result
@@ -284,28 +276,28 @@ fn opt_item_by_name<G: Grammar>(
 {
     if starts_union(p) {
         union(p, g, m)?;
-        return Ok(Ok(()));
+        return Ok(None);
     }
     if starts_macro_rules(p) {
         macro_rules(p, m)?;
-        return Ok(Ok(()));
+        return Ok(None);
     }
     if starts_global_asm(p) {
         global_asm(p, g, m)?;
-        return Ok(Ok(()));
+        return Ok(None);
     }
-    Ok(Err(m))
+    Ok(Some(m))
 }
 
 /// Assembly in the place of an item, as `builtin#global_asm("")`.
 #[tactic(auto, unfolding(rap_grammar_scripts::specs::Items::global_asm))]
 fn global_asm<G: Grammar>(p: &mut Parser<'_>, g: &G, m: Marker) -> Result<(), NoMemory>
-    requires within { Within G.valid G.left g.now (state p.old) }
+    requires within { Within G.valid G.left g.now p.old }
     requires newest { (state p.old).marker ≡ Some m.pos.value }
     requires bears { ReadsAs (state p.old) BUILTIN_KW }
     requires pound { NthAt (state p.old) 1 POUND }
     requires more { contextual_at (state p.old).rest 2 ≡ GLOBAL_ASM_KW }
-    ensures script { OnOk result (Does (G.left g.now) script.global_asm something (state p.old) (state p.new)) }
+    ensures script { OnOk result (Executes (G.left g.now) script.global_asm p.old p.new) }
 {
     p.bump_remap(T![builtin])?;
     p.bump(T![#])?;
@@ -321,8 +313,8 @@ fn opt_item_with_modifiers<G: Grammar>(
     g: &G,
     m: Marker,
     has_extern: bool,
-) -> Result<Result<(), Marker>, NoMemory>
-    requires within { Within G.valid G.left g.now (state p.old) }
+) -> Result<Option<Marker>, NoMemory>
+    requires within { Within G.valid G.left g.now p.old }
     requires newest { (state p.old).marker ≡ Some m.pos.value }
     ensures newest { IfOk result (HandsBack (state p.new)) }
     ensures script { IfOk result
@@ -332,24 +324,24 @@ fn opt_item_with_modifiers<G: Grammar>(
     match p.current() {
         T![fn] => {
             fn_(p, g, m)?;
-            Ok(Ok(()))
+            Ok(None)
         }
         T![const] => opt_const(p, g, m),
         T![static] => opt_static(p, g, m),
         T![trait] => {
             trait_(p, g, m)?;
-            Ok(Ok(()))
+            Ok(None)
         }
         T![impl] => {
             impl_(p, g, m)?;
-            Ok(Ok(()))
+            Ok(None)
         }
         T![type] => {
             type_item(p, g, m)?;
-            Ok(Ok(()))
+            Ok(None)
         }
         T!['{'] => opt_extern_block(p, g, m, has_extern),
-        _ => Ok(Err(m)),
+        _ => Ok(Some(m)),
     }
 }
 
@@ -360,8 +352,8 @@ fn opt_extern_block<G: Grammar>(
     g: &G,
     m: Marker,
     has_extern: bool,
-) -> Result<Result<(), Marker>, NoMemory>
-    requires within { Within G.valid G.left g.now (state p.old) }
+) -> Result<Option<Marker>, NoMemory>
+    requires within { Within G.valid G.left g.now p.old }
     requires newest { (state p.old).marker ≡ Some m.pos.value }
     requires here { next (state p.old) ≡ L_CURLY }
     ensures newest { IfOk result (HandsBack (state p.new)) }
@@ -369,11 +361,11 @@ fn opt_extern_block<G: Grammar>(
         (λ item. Does (G.left g.now) (script.opt_extern_block has_extern) (of_item item) (state p.old) (state p.new)) }
 {
     if !has_extern {
-        return Ok(Err(m));
+        return Ok(Some(m));
     }
     extern_item_list(p, g)?;
     m.complete(p, SyntaxKind::EXTERN_BLOCK)?;
-    Ok(Ok(()))
+    Ok(None)
 }
 
 /// An item, or a macro call in its place. Where neither begins, that is reported, and the next token is taken into an
@@ -385,10 +377,9 @@ pub fn item_or_macro<G: Grammar>(
     stop_on_r_curly: bool,
     is_in_extern: bool,
 ) -> Result<(), NoMemory>
-    requires within { Within G.valid G.left g.now (state p.old) }
+    requires within { Within G.valid G.left g.now p.old }
     ensures script { OnOk result
-        (Does (G.left g.now) (script.item_or_macro stop_on_r_curly is_in_extern) something (state p.old)
-        (state p.new)) }
+        (Executes (G.left g.now) (script.item_or_macro stop_on_r_curly is_in_extern) p.old p.new) }
 {
     let m = p.start()?;
     outer_attrs(p, g)?;
@@ -405,17 +396,17 @@ fn marked_item<G: Grammar>(
     stop_on_r_curly: bool,
     is_in_extern: bool,
 ) -> Result<(), NoMemory>
-    requires within { Within G.valid G.left g.now (state p.old) }
+    requires within { Within G.valid G.left g.now p.old }
     requires newest { (state p.old).marker ≡ Some m.pos.value }
     ensures script { OnOk result
-        (Does (G.left g.now) (script.marked_item stop_on_r_curly is_in_extern) something (state p.old) (state p.new)) }
+        (Executes (G.left g.now) (script.marked_item stop_on_r_curly is_in_extern) p.old p.new) }
 {
     match opt_item(p, g, m, is_in_extern)? {
-        Ok(()) => {
+        None => {
             after_item(p)?;
             Ok(())
         }
-        Err(m) => {
+        Some(m) => {
             macro_or_error(p, g, m, stop_on_r_curly)?;
             Ok(())
         }
@@ -425,7 +416,7 @@ fn marked_item<G: Grammar>(
 /// A semicolon after an item, which is taken into an `ERROR`.
 #[tactic(auto, unfolding(rap_grammar_scripts::specs::Items::after_item))]
 fn after_item(p: &mut Parser<'_>) -> Result<(), NoMemory>
-    ensures script { OnOk result (DoesAlone script.after_item something (state p.old) (state p.new)) }
+    ensures script { OnOk result (ExecutesAlone script.after_item p.old p.new) }
 {
     if !p.at(T![;]) {
         return Ok(());
@@ -442,10 +433,9 @@ fn macro_or_error<G: Grammar>(
     m: Marker,
     stop_on_r_curly: bool,
 ) -> Result<(), NoMemory>
-    requires within { Within G.valid G.left g.now (state p.old) }
+    requires within { Within G.valid G.left g.now p.old }
     requires newest { (state p.old).marker ≡ Some m.pos.value }
-    ensures script { OnOk result
-        (Does (G.left g.now) (script.macro_or_error stop_on_r_curly) something (state p.old) (state p.new)) }
+    ensures script { OnOk result (Executes (G.left g.now) (script.macro_or_error stop_on_r_curly) p.old p.new) }
 {
     if is_use_path_start(p) {
         path_item(p, g, m)?;
@@ -459,9 +449,9 @@ fn macro_or_error<G: Grammar>(
 /// A macro call from its path on, or a path alone, which is no item.
 #[tactic(auto, using(rap_grammar_facts::proofs::Paths::fewer_use_path, rap_grammar_facts::proofs::Paths::marker_use_path), unfolding(rap_grammar_scripts::specs::Items::path_item))]
 fn path_item<G: Grammar>(p: &mut Parser<'_>, g: &G, m: Marker) -> Result<(), NoMemory>
-    requires within { Within G.valid G.left g.now (state p.old) }
+    requires within { Within G.valid G.left g.now p.old }
     requires newest { (state p.old).marker ≡ Some m.pos.value }
-    ensures script { OnOk result (Does (G.left g.now) script.path_item something (state p.old) (state p.new)) }
+    ensures script { OnOk result (Executes (G.left g.now) script.path_item p.old p.new) }
 {
     use_path(p, g)?;
     if p.at(T![!]) {
@@ -480,9 +470,8 @@ fn missing_item<G: Grammar>(
     g: &G,
     stop_on_r_curly: bool,
 ) -> Result<(), NoMemory>
-    requires within { Within G.valid G.left g.now (state p.old) }
-    ensures script { OnOk result
-        (Does (G.left g.now) (script.missing_item stop_on_r_curly) something (state p.old) (state p.new)) }
+    requires within { Within G.valid G.left g.now p.old }
+    ensures script { OnOk result (Executes (G.left g.now) (script.missing_item stop_on_r_curly) p.old p.new) }
 {
     if p.current() == T!['{'] {
         error_block(p, g, "expected an item")?;
@@ -523,8 +512,7 @@ fn is_at_end(p: &Parser<'_>) -> bool
 #[tactic(auto, unfolding(rap_grammar_scripts::specs::Items::unmatched_brace))]
 fn unmatched_brace(p: &mut Parser<'_>) -> Result<(), NoMemory>
     requires here { next (state p.old) ≡ R_CURLY }
-    ensures script { OnOk result
-        ((depth : ℕ) → Does depth script.unmatched_brace something (state p.old) (state p.new)) }
+    ensures script { OnOk result ((depth : ℕ) → Executes depth script.unmatched_brace p.old p.new) }
 {
     let m = p.start()?;
     p.error("unmatched `}`")?;

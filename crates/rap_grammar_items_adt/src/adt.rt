@@ -7,9 +7,8 @@ ghost use Rattle.rap_events.specs.State.{state, last_children, next, ReadsAs};
 ghost use Rattle.rap_grammar_scripts.specs.Adt as script;
 ghost use Rattle.rap_grammar_scripts.specs.Adt.{is_mut_restriction_start};
 ghost use Rattle.rap_grammar_frame.specs.Grew.{Within, Behind};
-ghost use Rattle.rap_grammar_scripts.specs.Exec.{Does};
-ghost use Rattle.rap_grammar_facts.specs.Alone.{DoesAlone};
-ghost use Rattle.rap_grammar_scripts.specs.Script.{something};
+ghost use Rattle.rap_grammar_scripts.specs.Exec.{Does, Executes};
+ghost use Rattle.rap_grammar_facts.specs.Alone.{ExecutesAlone};
 ghost use Rattle.rap_grammar_scripts.specs.Test.{holds};
 ghost use Rattle.rap_grammar_scripts.specs.Words.{of_bool};
 
@@ -30,10 +29,10 @@ use rap_grammar_paths::visibility::{opt_visibility, opt_visibility_inner};
 /// A struct from its keyword on, as `struct S;`.
 #[tactic(auto, using(rap_grammar_frame::proofs::Done::marker_kept, rap_grammar_facts::proofs::Adt::level_struct_or_union), unfolding(rap_grammar_scripts::specs::Adt::strukt))]
 pub fn strukt<G: Grammar>(p: &mut Parser<'_>, g: &G, m: Marker) -> Result<(), NoMemory>
-    requires within { Within G.valid G.left g.now (state p.old) }
+    requires within { Within G.valid G.left g.now p.old }
     requires newest { (state p.old).marker ≡ Some m.pos.value }
     requires here { next (state p.old) ≡ STRUCT_KW }
-    ensures script { OnOk result (Does (G.left g.now) script.strukt something (state p.old) (state p.new)) }
+    ensures script { OnOk result (Executes (G.left g.now) script.strukt p.old p.new) }
 {
     p.bump(T![struct])?;
     struct_or_union(p, g, true)?;
@@ -44,10 +43,10 @@ pub fn strukt<G: Grammar>(p: &mut Parser<'_>, g: &G, m: Marker) -> Result<(), No
 /// A union from its keyword on, as `union U { a: b }`.
 #[tactic(auto, using(rap_grammar_frame::proofs::Done::marker_kept, rap_grammar_facts::proofs::Adt::level_struct_or_union), unfolding(rap_grammar_scripts::specs::Adt::union))]
 pub fn union<G: Grammar>(p: &mut Parser<'_>, g: &G, m: Marker) -> Result<(), NoMemory>
-    requires within { Within G.valid G.left g.now (state p.old) }
+    requires within { Within G.valid G.left g.now p.old }
     requires newest { (state p.old).marker ≡ Some m.pos.value }
     requires here { ReadsAs (state p.old) UNION_KW }
-    ensures script { OnOk result (Does (G.left g.now) script.union something (state p.old) (state p.new)) }
+    ensures script { OnOk result (Executes (G.left g.now) script.union p.old p.new) }
 {
     p.bump_remap(T![union])?;
     struct_or_union(p, g, false)?;
@@ -58,9 +57,8 @@ pub fn union<G: Grammar>(p: &mut Parser<'_>, g: &G, m: Marker) -> Result<(), NoM
 /// A struct or a union from its name on.
 #[tactic(auto, unfolding(rap_grammar_scripts::specs::Adt::struct_or_union))]
 fn struct_or_union<G: Grammar>(p: &mut Parser<'_>, g: &G, is_struct: bool) -> Result<(), NoMemory>
-    requires behind { Behind G.valid G.left g.now (state p.old) }
-    ensures script { OnOk result
-        (Does (G.left g.now) (script.struct_or_union is_struct) something (state p.old) (state p.new)) }
+    requires behind { Behind G.valid G.left g.now p.old }
+    ensures script { OnOk result (Executes (G.left g.now) (script.struct_or_union is_struct) p.old p.new) }
 {
     item_name(p)?;
     opt_generic_param_list(p, g)?;
@@ -71,8 +69,8 @@ fn struct_or_union<G: Grammar>(p: &mut Parser<'_>, g: &G, is_struct: bool) -> Re
 /// The fields of a struct or a union, and its `where`.
 #[tactic(auto, unfolding(rap_grammar_scripts::specs::Adt::fields))]
 fn fields<G: Grammar>(p: &mut Parser<'_>, g: &G, is_struct: bool) -> Result<(), NoMemory>
-    requires behind { Behind G.valid G.left g.now (state p.old) }
-    ensures script { OnOk result (Does (G.left g.now) (script.fields is_struct) something (state p.old) (state p.new)) }
+    requires behind { Behind G.valid G.left g.now p.old }
+    ensures script { OnOk result (Executes (G.left g.now) (script.fields is_struct) p.old p.new) }
 {
     if p.at(T![where]) {
         fields_behind_where(p, g)?;
@@ -93,9 +91,8 @@ fn fields<G: Grammar>(p: &mut Parser<'_>, g: &G, is_struct: bool) -> Result<(), 
 /// A `where`, and the fields after it.
 #[tactic(auto, unfolding(rap_grammar_scripts::specs::Adt::fields_behind_where))]
 fn fields_behind_where<G: Grammar>(p: &mut Parser<'_>, g: &G) -> Result<(), NoMemory>
-    requires behind { Behind G.valid G.left g.now (state p.old) }
-    ensures script { OnOk result
-        (Does (G.left g.now) script.fields_behind_where something (state p.old) (state p.new)) }
+    requires behind { Behind G.valid G.left g.now p.old }
+    ensures script { OnOk result (Executes (G.left g.now) script.fields_behind_where p.old p.new) }
 {
     opt_where_clause(p, g)?;
     if p.eat(T![;])? {
@@ -112,8 +109,8 @@ fn fields_behind_where<G: Grammar>(p: &mut Parser<'_>, g: &G) -> Result<(), NoMe
 /// What only a struct may have in place of named fields: none, or fields in parentheses.
 #[tactic(auto, unfolding(rap_grammar_scripts::specs::Adt::struct_fields))]
 fn struct_fields<G: Grammar>(p: &mut Parser<'_>, g: &G) -> Result<(), NoMemory>
-    requires behind { Behind G.valid G.left g.now (state p.old) }
-    ensures script { OnOk result (Does (G.left g.now) script.struct_fields something (state p.old) (state p.new)) }
+    requires behind { Behind G.valid G.left g.now p.old }
+    ensures script { OnOk result (Executes (G.left g.now) script.struct_fields p.old p.new) }
 {
     if p.eat(T![;])? {
         return Ok(());
@@ -129,9 +126,9 @@ fn struct_fields<G: Grammar>(p: &mut Parser<'_>, g: &G) -> Result<(), NoMemory>
 /// Fields in parentheses, and what stands after them.
 #[tactic(auto, using(rap_grammar_facts::proofs::Adt::moved_tuple_field_list), unfolding(rap_grammar_scripts::specs::Adt::tuple_fields))]
 fn tuple_fields<G: Grammar>(p: &mut Parser<'_>, g: &G) -> Result<(), NoMemory>
-    requires within { Within G.valid G.left g.now (state p.old) }
+    requires within { Within G.valid G.left g.now p.old }
     requires here { next (state p.old) ≡ L_PAREN }
-    ensures script { OnOk result (Does (G.left g.now) script.tuple_fields something (state p.old) (state p.new)) }
+    ensures script { OnOk result (Executes (G.left g.now) script.tuple_fields p.old p.new) }
 {
     tuple_field_list(p, g)?;
     opt_where_clause(p, g)?;
@@ -142,10 +139,10 @@ fn tuple_fields<G: Grammar>(p: &mut Parser<'_>, g: &G) -> Result<(), NoMemory>
 /// An enum from its keyword on, as `enum E { A }`.
 #[tactic(auto, using(rap_grammar_frame::proofs::Done::marker_kept, rap_grammar_facts::proofs::Adt::level_variant_list), unfolding(rap_grammar_scripts::specs::Adt::enum_))]
 pub fn enum_<G: Grammar>(p: &mut Parser<'_>, g: &G, m: Marker) -> Result<(), NoMemory>
-    requires within { Within G.valid G.left g.now (state p.old) }
+    requires within { Within G.valid G.left g.now p.old }
     requires newest { (state p.old).marker ≡ Some m.pos.value }
     requires here { next (state p.old) ≡ ENUM_KW }
-    ensures script { OnOk result (Does (G.left g.now) script.enum_ something (state p.old) (state p.new)) }
+    ensures script { OnOk result (Executes (G.left g.now) script.enum_ p.old p.new) }
 {
     p.bump(T![enum])?;
     item_name(p)?;
@@ -164,11 +161,11 @@ pub fn enum_<G: Grammar>(p: &mut Parser<'_>, g: &G, m: Marker) -> Result<(), NoM
 /// The variants of an enum in their braces.
 #[tactic(auto, using(rap_grammar_frame::proofs::Done::marker_kept, rap_grammar_frame::proofs::Ended::below_kept, rap_grammar_facts::proofs::Adt::level_variants), unfolding(rap_grammar_scripts::specs::Adt::variant_list))]
 pub fn variant_list<G: Grammar>(p: &mut Parser<'_>, g: &G) -> Result<(), NoMemory>
-    requires within { Within G.valid G.left g.now (state p.old) }
+    requires within { Within G.valid G.left g.now p.old }
     requires here { next (state p.old) ≡ L_CURLY }
     ensures one { OnOk result
         ((state p.new).forest ≡ node (state p.old).forest VARIANT_LIST (last_children (state p.new).forest)) }
-    ensures script { OnOk result (Does (G.left g.now) script.variant_list something (state p.old) (state p.new)) }
+    ensures script { OnOk result (Executes (G.left g.now) script.variant_list p.old p.new) }
 {
     let m = p.start()?;
     p.bump(T!['{'])?;
@@ -181,8 +178,8 @@ pub fn variant_list<G: Grammar>(p: &mut Parser<'_>, g: &G) -> Result<(), NoMemor
 /// Variants up to the brace that closes their list.
 #[tactic(auto, using(rap_grammar_frame::proofs::Loops::turns, rap_grammar_frame::proofs::Done::less_left, rap_grammar_facts::proofs::Adt::inside_variant_or_block), unfolding(rap_grammar_scripts::specs::Adt::variants))]
 fn variants<G: Grammar>(p: &mut Parser<'_>, g: &G) -> Result<(), NoMemory>
-    requires behind { Behind G.valid G.left g.now (state p.old) }
-    ensures script { OnOk result (Does (G.left g.now) script.variants something (state p.old) (state p.new)) }
+    requires behind { Behind G.valid G.left g.now p.old }
+    ensures script { OnOk result (Executes (G.left g.now) script.variants p.old p.new) }
 {
     'variants: while !p.at(SyntaxKind::EOF) && !p.at(T!['}']) {
         variant_or_block(p, g)?;
@@ -193,8 +190,8 @@ fn variants<G: Grammar>(p: &mut Parser<'_>, g: &G) -> Result<(), NoMemory>
 /// A variant, with the comma after it. A block in its place is reported.
 #[tactic(auto, unfolding(rap_grammar_scripts::specs::Adt::variant_or_block))]
 fn variant_or_block<G: Grammar>(p: &mut Parser<'_>, g: &G) -> Result<(), NoMemory>
-    requires behind { Behind G.valid G.left g.now (state p.old) }
-    ensures script { OnOk result (Does (G.left g.now) script.variant_or_block something (state p.old) (state p.new)) }
+    requires behind { Behind G.valid G.left g.now p.old }
+    ensures script { OnOk result (Executes (G.left g.now) script.variant_or_block p.old p.new) }
 {
     if p.at(T!['{']) {
         error_block(p, g, "expected enum variant")?;
@@ -208,8 +205,7 @@ fn variant_or_block<G: Grammar>(p: &mut Parser<'_>, g: &G) -> Result<(), NoMemor
 /// The comma in braces, before another field or variant and after it.
 #[tactic(auto, unfolding(rap_grammar_scripts::specs::Adt::comma_in_braces))]
 fn comma_in_braces(p: &mut Parser<'_>) -> Result<(), NoMemory>
-    ensures script { OnOk result
-        (DoesAlone script.comma_in_braces something (state p.old) (state p.new)) }
+    ensures script { OnOk result (ExecutesAlone script.comma_in_braces p.old p.new) }
 {
     if p.at(T!['}']) {
         return Ok(());
@@ -221,8 +217,8 @@ fn comma_in_braces(p: &mut Parser<'_>) -> Result<(), NoMemory>
 /// A variant with its attributes, as `#[a] A(b) = 1`.
 #[tactic(auto, unfolding(rap_grammar_scripts::specs::Adt::variant))]
 fn variant<G: Grammar>(p: &mut Parser<'_>, g: &G) -> Result<(), NoMemory>
-    requires behind { Behind G.valid G.left g.now (state p.old) }
-    ensures script { OnOk result (Does (G.left g.now) script.variant something (state p.old) (state p.new)) }
+    requires behind { Behind G.valid G.left g.now p.old }
+    ensures script { OnOk result (Executes (G.left g.now) script.variant p.old p.new) }
 {
     let m = p.start()?;
     outer_attrs(p, g)?;
@@ -233,9 +229,9 @@ fn variant<G: Grammar>(p: &mut Parser<'_>, g: &G) -> Result<(), NoMemory>
 /// A variant from its name on, with the marker that was opened before.
 #[tactic(auto, unfolding(rap_grammar_scripts::specs::Adt::named_variant))]
 fn named_variant<G: Grammar>(p: &mut Parser<'_>, g: &G, m: Marker) -> Result<(), NoMemory>
-    requires behind { Behind G.valid G.left g.now (state p.old) }
+    requires behind { Behind G.valid G.left g.now p.old }
     requires newest { (state p.old).marker ≡ Some m.pos.value }
-    ensures script { OnOk result (Does (G.left g.now) script.named_variant something (state p.old) (state p.new)) }
+    ensures script { OnOk result (Executes (G.left g.now) script.named_variant p.old p.new) }
 {
     if p.at(T![ident]) {
         name(p)?;
@@ -254,8 +250,7 @@ fn named_variant<G: Grammar>(p: &mut Parser<'_>, g: &G, m: Marker) -> Result<(),
 /// A field or a variant is missing. The next token is skipped too, unless the list ends there.
 #[tactic(auto, unfolding(rap_grammar_scripts::specs::Adt::missing_in_list))]
 fn missing_in_list(p: &mut Parser<'_>, message: &str) -> Result<(), NoMemory>
-    ensures script { OnOk result
-        (DoesAlone (script.missing_in_list message.now) something (state p.old) (state p.new)) }
+    ensures script { OnOk result (ExecutesAlone (script.missing_in_list message.now) p.old p.new) }
 {
     if p.at(T!['}']) {
         p.error(message)?;
@@ -268,9 +263,9 @@ fn missing_in_list(p: &mut Parser<'_>, message: &str) -> Result<(), NoMemory>
 /// What stands after a variant's name: its fields and its value.
 #[tactic(auto, using(rap_grammar_frame::proofs::Done::less_left, rap_grammar_frame::proofs::Done::marker_kept, rap_grammar_facts::proofs::Adt::level_variant_fields, rap_grammar_facts::proofs::Adt::level_opt_value), unfolding(rap_grammar_scripts::specs::Adt::after_variant_name))]
 fn after_variant_name<G: Grammar>(p: &mut Parser<'_>, g: &G, m: Marker) -> Result<(), NoMemory>
-    requires behind { Behind G.valid G.left g.now (state p.old) }
+    requires behind { Behind G.valid G.left g.now p.old }
     requires newest { (state p.old).marker ≡ Some m.pos.value }
-    ensures script { OnOk result (Does (G.left g.now) script.after_variant_name something (state p.old) (state p.new)) }
+    ensures script { OnOk result (Executes (G.left g.now) script.after_variant_name p.old p.new) }
 {
     variant_fields(p, g)?;
     opt_value(p, g)?;
@@ -281,8 +276,8 @@ fn after_variant_name<G: Grammar>(p: &mut Parser<'_>, g: &G, m: Marker) -> Resul
 /// The fields of a variant, if it has any.
 #[tactic(auto, unfolding(rap_grammar_scripts::specs::Adt::variant_fields))]
 fn variant_fields<G: Grammar>(p: &mut Parser<'_>, g: &G) -> Result<(), NoMemory>
-    requires behind { Behind G.valid G.left g.now (state p.old) }
-    ensures script { OnOk result (Does (G.left g.now) script.variant_fields something (state p.old) (state p.new)) }
+    requires behind { Behind G.valid G.left g.now p.old }
+    ensures script { OnOk result (Executes (G.left g.now) script.variant_fields p.old p.new) }
 {
     if p.at(T!['{']) {
         record_field_list(p, g)?;
@@ -298,8 +293,8 @@ fn variant_fields<G: Grammar>(p: &mut Parser<'_>, g: &G) -> Result<(), NoMemory>
 /// The value of a field or a variant, as `= 1`, if it has one.
 #[tactic(auto, unfolding(rap_grammar_scripts::specs::Adt::opt_value))]
 fn opt_value<G: Grammar>(p: &mut Parser<'_>, g: &G) -> Result<(), NoMemory>
-    requires within { Within G.valid G.left g.now (state p.old) }
-    ensures script { OnOk result (Does (G.left g.now) script.opt_value something (state p.old) (state p.new)) }
+    requires within { Within G.valid G.left g.now p.old }
+    ensures script { OnOk result (Executes (G.left g.now) script.opt_value p.old p.new) }
 {
     if !p.eat(T![=])? {
         return Ok(());
@@ -313,11 +308,11 @@ fn opt_value<G: Grammar>(p: &mut Parser<'_>, g: &G) -> Result<(), NoMemory>
 /// Named fields in their braces, as `{ a: b, c: d }`.
 #[tactic(auto, using(rap_grammar_frame::proofs::Done::marker_kept, rap_grammar_frame::proofs::Ended::below_kept, rap_grammar_facts::proofs::Adt::level_record_fields), unfolding(rap_grammar_scripts::specs::Adt::record_field_list))]
 pub fn record_field_list<G: Grammar>(p: &mut Parser<'_>, g: &G) -> Result<(), NoMemory>
-    requires within { Within G.valid G.left g.now (state p.old) }
+    requires within { Within G.valid G.left g.now p.old }
     requires here { next (state p.old) ≡ L_CURLY }
     ensures one { OnOk result
         ((state p.new).forest ≡ node (state p.old).forest RECORD_FIELD_LIST (last_children (state p.new).forest)) }
-    ensures script { OnOk result (Does (G.left g.now) script.record_field_list something (state p.old) (state p.new)) }
+    ensures script { OnOk result (Executes (G.left g.now) script.record_field_list p.old p.new) }
 {
     let m = p.start()?;
     p.bump(T!['{'])?;
@@ -330,8 +325,8 @@ pub fn record_field_list<G: Grammar>(p: &mut Parser<'_>, g: &G) -> Result<(), No
 /// Named fields up to the brace that closes their list.
 #[tactic(auto, using(rap_grammar_frame::proofs::Loops::turns, rap_grammar_frame::proofs::Done::less_left, rap_grammar_facts::proofs::Adt::inside_field_or_block), unfolding(rap_grammar_scripts::specs::Adt::record_fields))]
 fn record_fields<G: Grammar>(p: &mut Parser<'_>, g: &G) -> Result<(), NoMemory>
-    requires behind { Behind G.valid G.left g.now (state p.old) }
-    ensures script { OnOk result (Does (G.left g.now) script.record_fields something (state p.old) (state p.new)) }
+    requires behind { Behind G.valid G.left g.now p.old }
+    ensures script { OnOk result (Executes (G.left g.now) script.record_fields p.old p.new) }
 {
     'fields: while !p.at(T!['}']) && !p.at(SyntaxKind::EOF) {
         field_or_block(p, g)?;
@@ -342,8 +337,8 @@ fn record_fields<G: Grammar>(p: &mut Parser<'_>, g: &G) -> Result<(), NoMemory>
 /// A named field, with the comma after it. A block in its place is reported.
 #[tactic(auto, unfolding(rap_grammar_scripts::specs::Adt::field_or_block))]
 fn field_or_block<G: Grammar>(p: &mut Parser<'_>, g: &G) -> Result<(), NoMemory>
-    requires behind { Behind G.valid G.left g.now (state p.old) }
-    ensures script { OnOk result (Does (G.left g.now) script.field_or_block something (state p.old) (state p.new)) }
+    requires behind { Behind G.valid G.left g.now p.old }
+    ensures script { OnOk result (Executes (G.left g.now) script.field_or_block p.old p.new) }
 {
     if p.at(T!['{']) {
         error_block(p, g, "expected field")?;
@@ -357,8 +352,8 @@ fn field_or_block<G: Grammar>(p: &mut Parser<'_>, g: &G) -> Result<(), NoMemory>
 /// A field with its attributes, as `#[a] pub b: c = 1`.
 #[tactic(auto, unfolding(rap_grammar_scripts::specs::Adt::record_field))]
 fn record_field<G: Grammar>(p: &mut Parser<'_>, g: &G) -> Result<(), NoMemory>
-    requires behind { Behind G.valid G.left g.now (state p.old) }
-    ensures script { OnOk result (Does (G.left g.now) script.record_field something (state p.old) (state p.new)) }
+    requires behind { Behind G.valid G.left g.now p.old }
+    ensures script { OnOk result (Executes (G.left g.now) script.record_field p.old p.new) }
 {
     let m = p.start()?;
     outer_attrs(p, g)?;
@@ -369,9 +364,9 @@ fn record_field<G: Grammar>(p: &mut Parser<'_>, g: &G) -> Result<(), NoMemory>
 /// A field from its visibility on, with the marker that was opened before.
 #[tactic(auto, unfolding(rap_grammar_scripts::specs::Adt::visible_field))]
 fn visible_field<G: Grammar>(p: &mut Parser<'_>, g: &G, m: Marker) -> Result<(), NoMemory>
-    requires behind { Behind G.valid G.left g.now (state p.old) }
+    requires behind { Behind G.valid G.left g.now p.old }
     requires newest { (state p.old).marker ≡ Some m.pos.value }
-    ensures script { OnOk result (Does (G.left g.now) script.visible_field something (state p.old) (state p.new)) }
+    ensures script { OnOk result (Executes (G.left g.now) script.visible_field p.old p.new) }
 {
     opt_visibility(p, g, false)?;
     restricted_field(p, g, m)?;
@@ -381,9 +376,9 @@ fn visible_field<G: Grammar>(p: &mut Parser<'_>, g: &G, m: Marker) -> Result<(),
 /// A field from its `mut` restriction on, which may stand before `unsafe` and after it.
 #[tactic(auto, using(rap_grammar_frame::proofs::Done::less_left, rap_grammar_frame::proofs::Done::marker_kept, rap_grammar_facts::proofs::Adt::level_opt_mut_restriction, rap_grammar_facts::proofs::Adt::level_opt_unsafe), unfolding(rap_grammar_scripts::specs::Adt::restricted_field))]
 fn restricted_field<G: Grammar>(p: &mut Parser<'_>, g: &G, m: Marker) -> Result<(), NoMemory>
-    requires behind { Behind G.valid G.left g.now (state p.old) }
+    requires behind { Behind G.valid G.left g.now p.old }
     requires newest { (state p.old).marker ≡ Some m.pos.value }
-    ensures script { OnOk result (Does (G.left g.now) script.restricted_field something (state p.old) (state p.new)) }
+    ensures script { OnOk result (Executes (G.left g.now) script.restricted_field p.old p.new) }
 {
     opt_mut_restriction(p, g)?;
     opt_unsafe(p, g)?;
@@ -394,9 +389,9 @@ fn restricted_field<G: Grammar>(p: &mut Parser<'_>, g: &G, m: Marker) -> Result<
 /// A field from its name on.
 #[tactic(auto, using(rap_grammar_frame::proofs::Done::marker_kept, rap_grammar_facts::proofs::Adt::level_opt_value))]
 fn named_field<G: Grammar>(p: &mut Parser<'_>, g: &G, m: Marker) -> Result<(), NoMemory>
-    requires behind { Behind G.valid G.left g.now (state p.old) }
+    requires behind { Behind G.valid G.left g.now p.old }
     requires newest { (state p.old).marker ≡ Some m.pos.value }
-    ensures script { OnOk result (Does (G.left g.now) script.named_field something (state p.old) (state p.new)) }
+    ensures script { OnOk result (Executes (G.left g.now) script.named_field p.old p.new) }
 {
     if p.at(T![ident]) {
         name(p)?;
@@ -414,8 +409,8 @@ fn named_field<G: Grammar>(p: &mut Parser<'_>, g: &G, m: Marker) -> Result<(), N
 /// The `unsafe` and the `mut` restriction before a field, if they are there.
 #[tactic(auto, unfolding(rap_grammar_scripts::specs::Adt::opt_unsafe))]
 fn opt_unsafe<G: Grammar>(p: &mut Parser<'_>, g: &G) -> Result<(), NoMemory>
-    requires within { Within G.valid G.left g.now (state p.old) }
-    ensures script { OnOk result (Does (G.left g.now) script.opt_unsafe something (state p.old) (state p.new)) }
+    requires within { Within G.valid G.left g.now p.old }
+    ensures script { OnOk result (Executes (G.left g.now) script.opt_unsafe p.old p.new) }
 {
     if !p.eat(T![unsafe])? {
         return Ok(());
@@ -435,9 +430,8 @@ fn is_mut_restriction_start(p: &Parser<'_>) -> bool
 /// The `mut` restriction of a field, as `mut(crate)`, if there is one.
 #[tactic(auto, unfolding(rap_grammar_scripts::specs::Adt::opt_mut_restriction))]
 fn opt_mut_restriction<G: Grammar>(p: &mut Parser<'_>, g: &G) -> Result<(), NoMemory>
-    requires within { Within G.valid G.left g.now (state p.old) }
-    ensures script { OnOk result
-        (Does (G.left g.now) script.opt_mut_restriction something (state p.old) (state p.new)) }
+    requires within { Within G.valid G.left g.now p.old }
+    ensures script { OnOk result (Executes (G.left g.now) script.opt_mut_restriction p.old p.new) }
 {
     if is_mut_restriction_start(p) {
         mut_restriction(p, g)?;
@@ -448,9 +442,9 @@ fn opt_mut_restriction<G: Grammar>(p: &mut Parser<'_>, g: &G) -> Result<(), NoMe
 /// The `mut` restriction of a field.
 #[tactic(auto, unfolding(rap_grammar_scripts::specs::Adt::mut_restriction))]
 fn mut_restriction<G: Grammar>(p: &mut Parser<'_>, g: &G) -> Result<(), NoMemory>
-    requires within { Within G.valid G.left g.now (state p.old) }
+    requires within { Within G.valid G.left g.now p.old }
     requires here { next (state p.old) ≡ MUT_KW }
-    ensures script { OnOk result (Does (G.left g.now) script.mut_restriction something (state p.old) (state p.new)) }
+    ensures script { OnOk result (Executes (G.left g.now) script.mut_restriction p.old p.new) }
 {
     let m = p.start()?;
     p.bump(T![mut])?;
@@ -466,9 +460,9 @@ fn mut_restriction<G: Grammar>(p: &mut Parser<'_>, g: &G) -> Result<(), NoMemory
 /// Fields without names in their parentheses, as `(a, pub b)`.
 #[tactic(auto, unfolding(rap_grammar_scripts::specs::Adt::tuple_field_list))]
 fn tuple_field_list<G: Grammar>(p: &mut Parser<'_>, g: &G) -> Result<(), NoMemory>
-    requires within { Within G.valid G.left g.now (state p.old) }
+    requires within { Within G.valid G.left g.now p.old }
     requires here { next (state p.old) ≡ L_PAREN }
-    ensures script { OnOk result (Does (G.left g.now) script.tuple_field_list something (state p.old) (state p.new)) }
+    ensures script { OnOk result (Executes (G.left g.now) script.tuple_field_list p.old p.new) }
 {
     let m = p.start()?;
     delimited(
@@ -507,7 +501,7 @@ impl Element for TupleField {
 #[inline(always)]
 #[tactic(auto, unfolding(rap_grammar_scripts::specs::Adt::tuple_field))]
 fn tuple_field<G: Grammar>(p: &mut Parser<'_>, g: &G) -> Result<bool, NoMemory>
-    requires behind { Behind G.valid G.left g.now (state p.old) }
+    requires behind { Behind G.valid G.left g.now p.old }
     ensures script { IfOk result
         (λ found. Does (G.left g.now) script.tuple_field (of_bool found) (state p.old) (state p.new)) }
 {
@@ -526,7 +520,7 @@ fn restricted_tuple_field<G: Grammar>(
     m: Marker,
     has_vis: bool,
 ) -> Result<bool, NoMemory>
-    requires behind { Behind G.valid G.left g.now (state p.old) }
+    requires behind { Behind G.valid G.left g.now p.old }
     requires newest { (state p.old).marker ≡ Some m.pos.value }
     ensures script { IfOk result
         (λ found. Does (G.left g.now) (script.restricted_tuple_field (of_bool has_vis)) (of_bool found) (state p.old)
@@ -546,7 +540,7 @@ fn typed_field<G: Grammar>(
     m: Marker,
     has_vis: bool,
 ) -> Result<bool, NoMemory>
-    requires behind { Behind G.valid G.left g.now (state p.old) }
+    requires behind { Behind G.valid G.left g.now p.old }
     requires newest { (state p.old).marker ≡ Some m.pos.value }
     ensures script { IfOk result
         (λ found. Does (G.left g.now) (script.typed_field (of_bool has_vis)) (of_bool found) (state p.old)

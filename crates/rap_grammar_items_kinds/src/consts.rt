@@ -5,9 +5,8 @@ ghost use Rattle.rap_events.specs.State.{state, next};
 ghost use Rattle.rap_grammar_scripts.specs.Consts as script;
 ghost use Rattle.rap_grammar_scripts.specs.Consts.{starts_const};
 ghost use Rattle.rap_grammar_frame.specs.Grew.{Within, Behind};
-ghost use Rattle.rap_grammar_scripts.specs.Exec.{Does};
-ghost use Rattle.rap_grammar_facts.specs.Alone.{DoesAlone};
-ghost use Rattle.rap_grammar_scripts.specs.Script.{something};
+ghost use Rattle.rap_grammar_scripts.specs.Exec.{Executes};
+ghost use Rattle.rap_grammar_facts.specs.Alone.{ExecutesAlone};
 ghost use Rattle.rap_grammar_scripts.specs.Test.{holds};
 
 use rap_base::T;
@@ -21,10 +20,10 @@ use rap_grammar_frame::through_knot::{ascription, expr, opt_generic_param_list, 
 /// A constant from its `const` or `type const` on, as `const A: b = c;`.
 #[tactic(auto, using(rap_grammar_frame::proofs::Done::marker_kept, rap_grammar_facts::proofs::Consts::level_const_or_static), unfolding(rap_grammar_scripts::specs::Consts::konst))]
 pub fn konst<G: Grammar>(p: &mut Parser<'_>, g: &G, m: Marker) -> Result<(), NoMemory>
-    requires within { Within G.valid G.left g.now (state p.old) }
+    requires within { Within G.valid G.left g.now p.old }
     requires newest { (state p.old).marker ≡ Some m.pos.value }
     requires here { holds starts_const (state p.old).rest ≡ true }
-    ensures script { OnOk result (Does (G.left g.now) script.konst something (state p.old) (state p.new)) }
+    ensures script { OnOk result (Executes (G.left g.now) script.konst p.old p.new) }
 {
     p.eat(T![type])?;
     p.bump(T![const])?;
@@ -36,10 +35,10 @@ pub fn konst<G: Grammar>(p: &mut Parser<'_>, g: &G, m: Marker) -> Result<(), NoM
 /// A static from its keyword on, as `static A: b = c;`.
 #[tactic(auto, using(rap_grammar_frame::proofs::Done::marker_kept, rap_grammar_facts::proofs::Consts::level_const_or_static), unfolding(rap_grammar_scripts::specs::Consts::static_))]
 pub fn static_<G: Grammar>(p: &mut Parser<'_>, g: &G, m: Marker) -> Result<(), NoMemory>
-    requires within { Within G.valid G.left g.now (state p.old) }
+    requires within { Within G.valid G.left g.now p.old }
     requires newest { (state p.old).marker ≡ Some m.pos.value }
     requires here { next (state p.old) ≡ STATIC_KW }
-    ensures script { OnOk result (Does (G.left g.now) script.static_ something (state p.old) (state p.new)) }
+    ensures script { OnOk result (Executes (G.left g.now) script.static_ p.old p.new) }
 {
     p.bump(T![static])?;
     const_or_static(p, g, false)?;
@@ -50,9 +49,8 @@ pub fn static_<G: Grammar>(p: &mut Parser<'_>, g: &G, m: Marker) -> Result<(), N
 /// A constant or a static, after its keyword.
 #[tactic(auto, using(rap_grammar_frame::proofs::Done::less_left, rap_grammar_facts::proofs::Alone::alone_less_left), unfolding(rap_grammar_scripts::specs::Consts::const_or_static))]
 fn const_or_static<G: Grammar>(p: &mut Parser<'_>, g: &G, is_const: bool) -> Result<(), NoMemory>
-    requires behind { Behind G.valid G.left g.now (state p.old) }
-    ensures script { OnOk result
-        (Does (G.left g.now) (script.const_or_static is_const) something (state p.old) (state p.new)) }
+    requires behind { Behind G.valid G.left g.now p.old }
+    ensures script { OnOk result (Executes (G.left g.now) (script.const_or_static is_const) p.old p.new) }
 {
     p.eat(T![mut])?;
     const_name(p, is_const)?;
@@ -67,7 +65,7 @@ fn const_or_static<G: Grammar>(p: &mut Parser<'_>, g: &G, is_const: bool) -> Res
 /// The name. A constant may have none, as `const _: a = b;`.
 #[tactic(auto, unfolding(rap_grammar_scripts::specs::Consts::const_name))]
 fn const_name(p: &mut Parser<'_>, is_const: bool) -> Result<(), NoMemory>
-    ensures script { OnOk result (DoesAlone (script.const_name is_const) something (state p.old) (state p.new)) }
+    ensures script { OnOk result (ExecutesAlone (script.const_name is_const) p.old p.new) }
 {
     if !is_const {
         name(p)?;
@@ -83,9 +81,8 @@ fn const_name(p: &mut Parser<'_>, is_const: bool) -> Result<(), NoMemory>
 /// Generic parameters, which are reported at a static.
 #[tactic(auto, using(rap_grammar_frame::proofs::Steps::by_report), unfolding(rap_grammar_scripts::specs::Consts::const_params))]
 fn const_params<G: Grammar>(p: &mut Parser<'_>, g: &G, is_const: bool) -> Result<(), NoMemory>
-    requires behind { Behind G.valid G.left g.now (state p.old) }
-    ensures script { OnOk result
-        (Does (G.left g.now) (script.const_params is_const) something (state p.old) (state p.new)) }
+    requires behind { Behind G.valid G.left g.now p.old }
+    ensures script { OnOk result (Executes (G.left g.now) (script.const_params is_const) p.old p.new) }
 {
     if is_const {
         opt_generic_param_list(p, g)?;
@@ -103,9 +100,8 @@ fn const_params<G: Grammar>(p: &mut Parser<'_>, g: &G, is_const: bool) -> Result
 /// The type, as `: a`. Where it is missing, that is reported.
 #[tactic(auto, unfolding(rap_grammar_scripts::specs::Consts::const_type, rap_grammar_scripts::specs::Consts::missing_const_type))]
 fn const_type<G: Grammar>(p: &mut Parser<'_>, g: &G, is_const: bool) -> Result<(), NoMemory>
-    requires within { Within G.valid G.left g.now (state p.old) }
-    ensures script { OnOk result
-        (Does (G.left g.now) (script.const_type is_const) something (state p.old) (state p.new)) }
+    requires within { Within G.valid G.left g.now p.old }
+    ensures script { OnOk result (Executes (G.left g.now) (script.const_type is_const) p.old p.new) }
 {
     if p.at(T![:]) {
         ascription(p, g)?;
@@ -122,8 +118,8 @@ fn const_type<G: Grammar>(p: &mut Parser<'_>, g: &G, is_const: bool) -> Result<(
 /// The value, as `= 1`, if it is given.
 #[tactic(auto, unfolding(rap_grammar_scripts::specs::Consts::const_value))]
 fn const_value<G: Grammar>(p: &mut Parser<'_>, g: &G) -> Result<(), NoMemory>
-    requires within { Within G.valid G.left g.now (state p.old) }
-    ensures script { OnOk result (Does (G.left g.now) script.const_value something (state p.old) (state p.new)) }
+    requires within { Within G.valid G.left g.now p.old }
+    ensures script { OnOk result (Executes (G.left g.now) script.const_value p.old p.new) }
 {
     if p.eat(T![=])? {
         expr(p, g)?;
@@ -134,9 +130,8 @@ fn const_value<G: Grammar>(p: &mut Parser<'_>, g: &G) -> Result<(), NoMemory>
 /// The `where` of a constant, if it has one. A static has none.
 #[tactic(auto, unfolding(rap_grammar_scripts::specs::Consts::const_where))]
 fn const_where<G: Grammar>(p: &mut Parser<'_>, g: &G, is_const: bool) -> Result<(), NoMemory>
-    requires behind { Behind G.valid G.left g.now (state p.old) }
-    ensures script { OnOk result
-        (Does (G.left g.now) (script.const_where is_const) something (state p.old) (state p.new)) }
+    requires behind { Behind G.valid G.left g.now p.old }
+    ensures script { OnOk result (Executes (G.left g.now) (script.const_where is_const) p.old p.new) }
 {
     if is_const {
         opt_where_clause(p, g)?;

@@ -5,9 +5,8 @@ ghost use Rattle.rap_base.specs.TokenKind.{FN_KW, EOF};
 ghost use Rattle.rap_events.specs.State.{state, next};
 ghost use Rattle.rap_grammar_scripts.specs.Functions as script;
 ghost use Rattle.rap_grammar_frame.specs.Grew.{Within, Behind};
-ghost use Rattle.rap_grammar_scripts.specs.Exec.{Does};
-ghost use Rattle.rap_grammar_facts.specs.Alone.{DoesAlone};
-ghost use Rattle.rap_grammar_scripts.specs.Script.{something};
+ghost use Rattle.rap_grammar_scripts.specs.Exec.{Executes};
+ghost use Rattle.rap_grammar_facts.specs.Alone.{ExecutesAlone};
 
 use rap_base::T;
 use rap_base::no_memory::NoMemory;
@@ -24,10 +23,10 @@ use rap_grammar_params::params::param_list_fn_def;
 /// A function from its keyword on, as `fn f(a: b) -> c {}`.
 #[tactic(auto, using(rap_grammar_frame::proofs::Done::less_left, rap_grammar_frame::proofs::Done::marker_kept, rap_grammar_facts::proofs::Functions::level_signature, rap_grammar_facts::proofs::Functions::level_fn_body), unfolding(rap_grammar_scripts::specs::Functions::fn_))]
 pub fn fn_<G: Grammar>(p: &mut Parser<'_>, g: &G, m: Marker) -> Result<(), NoMemory>
-    requires within { Within G.valid G.left g.now (state p.old) }
+    requires within { Within G.valid G.left g.now p.old }
     requires newest { (state p.old).marker ≡ Some m.pos.value }
     requires here { next (state p.old) ≡ FN_KW }
-    ensures script { OnOk result (Does (G.left g.now) script.fn_ something (state p.old) (state p.new)) }
+    ensures script { OnOk result (Executes (G.left g.now) script.fn_ p.old p.new) }
 {
     p.bump(T![fn])?;
     fn_name(p)?;
@@ -41,8 +40,8 @@ pub fn fn_<G: Grammar>(p: &mut Parser<'_>, g: &G, m: Marker) -> Result<(), NoMem
 /// The parameters of a function, its return type and its `where`, as `(a: b) -> c where d: E`.
 #[tactic(auto, using(rap_grammar_frame::proofs::Done::less_left, rap_grammar_facts::proofs::Alone::alone_less_left), unfolding(rap_grammar_scripts::specs::Functions::signature))]
 fn signature<G: Grammar>(p: &mut Parser<'_>, g: &G) -> Result<(), NoMemory>
-    requires behind { Behind G.valid G.left g.now (state p.old) }
-    ensures script { OnOk result (Does (G.left g.now) script.signature something (state p.old) (state p.new)) }
+    requires behind { Behind G.valid G.left g.now p.old }
+    ensures script { OnOk result (Executes (G.left g.now) script.signature p.old p.new) }
 {
     fn_params(p, g)?;
     fn_ret_type(p, g)?;
@@ -54,8 +53,8 @@ fn signature<G: Grammar>(p: &mut Parser<'_>, g: &G) -> Result<(), NoMemory>
 /// The parameters of a function, or the message that they are missing.
 #[tactic(auto, unfolding(rap_grammar_scripts::specs::Functions::fn_params))]
 fn fn_params<G: Grammar>(p: &mut Parser<'_>, g: &G) -> Result<(), NoMemory>
-    requires within { Within G.valid G.left g.now (state p.old) }
-    ensures script { OnOk result (Does (G.left g.now) script.fn_params something (state p.old) (state p.new)) }
+    requires within { Within G.valid G.left g.now p.old }
+    ensures script { OnOk result (Executes (G.left g.now) script.fn_params p.old p.new) }
 {
     if p.at(T!['(']) {
         param_list_fn_def(p, g)?;
@@ -68,8 +67,8 @@ fn fn_params<G: Grammar>(p: &mut Parser<'_>, g: &G) -> Result<(), NoMemory>
 /// The return type of a function, as `-> a`, and also without the arrow.
 #[tactic(auto, unfolding(rap_grammar_scripts::specs::Functions::fn_ret_type))]
 fn fn_ret_type<G: Grammar>(p: &mut Parser<'_>, g: &G) -> Result<(), NoMemory>
-    requires behind { Behind G.valid G.left g.now (state p.old) }
-    ensures script { OnOk result (Does (G.left g.now) script.fn_ret_type something (state p.old) (state p.new)) }
+    requires behind { Behind G.valid G.left g.now p.old }
+    ensures script { OnOk result (Executes (G.left g.now) script.fn_ret_type p.old p.new) }
 {
     if opt_ret_type(p, g)? {
         return Ok(());
@@ -88,7 +87,7 @@ fn is_unbalanced(kind: SyntaxKind) -> bool
 
 /// Brackets that close nothing, each in an `ERROR`.
 fn unbalanced_brackets(p: &mut Parser<'_>) -> Result<(), NoMemory>
-    ensures script { OnOk result (DoesAlone script.unbalanced_brackets something (state p.old) (state p.new)) }
+    ensures script { OnOk result (ExecutesAlone script.unbalanced_brackets p.old p.new) }
 {
     'brackets: while is_unbalanced(p.current()) {
         p.err_and_bump("expected a curly brace")?;
@@ -99,8 +98,8 @@ fn unbalanced_brackets(p: &mut Parser<'_>) -> Result<(), NoMemory>
 /// The block of a function, or the semicolon in its place.
 #[tactic(auto, unfolding(rap_grammar_scripts::specs::Functions::fn_body))]
 fn fn_body<G: Grammar>(p: &mut Parser<'_>, g: &G) -> Result<(), NoMemory>
-    requires within { Within G.valid G.left g.now (state p.old) }
-    ensures script { OnOk result (Does (G.left g.now) script.fn_body something (state p.old) (state p.new)) }
+    requires within { Within G.valid G.left g.now p.old }
+    ensures script { OnOk result (Executes (G.left g.now) script.fn_body p.old p.new) }
 {
     if p.eat(T![;])? {
         return Ok(());

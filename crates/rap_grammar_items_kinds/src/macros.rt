@@ -3,9 +3,8 @@
 ghost use Rattle.std.specs.Prelude.{ℕ, ◌≡◌, ◌≢◌, ◌<◌, ◌≤◌, IfOk, OnOk, Some, None, true, ◌⊎◌};
 ghost use Rattle.rap_base.specs.TokenKind.{BANG, MACRO_KW, MACRO_RULES_KW};
 ghost use Rattle.rap_events.specs.State.{state, next, ReadsAs};
-ghost use Rattle.rap_grammar_facts.specs.Alone.{DoesDeep};
+ghost use Rattle.rap_grammar_facts.specs.Alone.{ExecutesDeep};
 ghost use Rattle.rap_grammar_scripts.specs.Macros as script;
-ghost use Rattle.rap_grammar_scripts.specs.Script.{something};
 
 use rap_base::T;
 use rap_base::no_memory::NoMemory;
@@ -20,7 +19,7 @@ use rap_grammar_frame::token_tree::{is_bracket, macro_call_after_excl, token_tre
 pub fn macro_rules(p: &mut Parser<'_>, m: Marker) -> Result<(), NoMemory>
     requires newest { (state p.old).marker ≡ Some m.pos.value }
     requires here { ReadsAs (state p.old) MACRO_RULES_KW }
-    ensures script { OnOk result (DoesDeep script.macro_rules something (state p.old) (state p.new)) }
+    ensures script { OnOk result (ExecutesDeep script.macro_rules p.old p.new) }
 {
     p.bump_remap(T![macro_rules])?;
     p.expect(T![!])?;
@@ -33,7 +32,7 @@ pub fn macro_rules(p: &mut Parser<'_>, m: Marker) -> Result<(), NoMemory>
 /// The rules of a macro in their brackets, with a semicolon after them if these are no braces.
 #[tactic(auto, unfolding(rap_grammar_scripts::specs::Macros::rules_in_brackets))]
 fn rules_in_brackets(p: &mut Parser<'_>) -> Result<(), NoMemory>
-    ensures script { OnOk result (DoesDeep script.rules_in_brackets something (state p.old) (state p.new)) }
+    ensures script { OnOk result (ExecutesDeep script.rules_in_brackets p.old p.new) }
 {
     let kind = p.current();
     if matches!(kind, T!['['] | T!['(']) {
@@ -54,7 +53,7 @@ fn rules_in_brackets(p: &mut Parser<'_>) -> Result<(), NoMemory>
 pub fn macro_def(p: &mut Parser<'_>, m: Marker) -> Result<(), NoMemory>
     requires newest { (state p.old).marker ≡ Some m.pos.value }
     requires here { next (state p.old) ≡ MACRO_KW }
-    ensures script { OnOk result (DoesDeep script.macro_def something (state p.old) (state p.new)) }
+    ensures script { OnOk result (ExecutesDeep script.macro_def p.old p.new) }
 {
     p.bump(T![macro])?;
     item_name(p)?;
@@ -66,7 +65,7 @@ pub fn macro_def(p: &mut Parser<'_>, m: Marker) -> Result<(), NoMemory>
 /// What stands after a macro's name, as `{ () => {} }` and `($a:ident) {}`.
 #[tactic(auto, unfolding(rap_grammar_scripts::specs::Macros::macro_def_tokens))]
 fn macro_def_tokens(p: &mut Parser<'_>) -> Result<(), NoMemory>
-    ensures script { OnOk result (DoesDeep script.macro_def_tokens something (state p.old) (state p.new)) }
+    ensures script { OnOk result (ExecutesDeep script.macro_def_tokens p.old p.new) }
 {
     if p.at(T!['{']) {
         token_tree(p)?;
@@ -84,7 +83,7 @@ fn macro_def_tokens(p: &mut Parser<'_>) -> Result<(), NoMemory>
 /// The body of a macro, after its parameters.
 #[tactic(auto, unfolding(rap_grammar_scripts::specs::Macros::macro_def_body))]
 fn macro_def_body(p: &mut Parser<'_>) -> Result<(), NoMemory>
-    ensures script { OnOk result (DoesDeep script.macro_def_body something (state p.old) (state p.new)) }
+    ensures script { OnOk result (ExecutesDeep script.macro_def_body p.old p.new) }
 {
     if is_bracket(p.current()) {
         token_tree(p)?;
@@ -99,7 +98,7 @@ fn macro_def_body(p: &mut Parser<'_>) -> Result<(), NoMemory>
 pub fn macro_call(p: &mut Parser<'_>, m: Marker) -> Result<(), NoMemory>
     requires newest { (state p.old).marker ≡ Some m.pos.value }
     requires here { next (state p.old) ≡ BANG }
-    ensures script { OnOk result (DoesDeep script.macro_call something (state p.old) (state p.new)) }
+    ensures script { OnOk result (ExecutesDeep script.macro_call p.old p.new) }
 {
     let like = macro_call_after_excl(p)?;
     if like.is_block() {

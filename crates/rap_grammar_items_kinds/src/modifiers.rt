@@ -4,9 +4,9 @@ ghost use Rattle.std.specs.Prelude.{ℕ, ◌≡◌, ◌≢◌, IfOk, OnOk, true,
 ghost use Rattle.rap_base.specs.TokenKind.{EOF, IMPL_KW, CONST_KW, ASYNC_KW, GEN_KW, UNSAFE_KW, SAFE_KW, AUTO_KW, DEFAULT_KW};
 ghost use Rattle.rap_events.specs.State.{state, next, At, NthAt, ReadsAs};
 ghost use Rattle.rap_grammar_frame.specs.Grew.{Within};
-ghost use Rattle.rap_grammar_scripts.specs.Exec.{Does};
+ghost use Rattle.rap_grammar_scripts.specs.Exec.{Does, Executes};
 ghost use Rattle.rap_grammar_scripts.specs.Modifiers as script;
-ghost use Rattle.rap_grammar_scripts.specs.Script.{something, again};
+ghost use Rattle.rap_grammar_scripts.specs.Script.{again};
 ghost use Rattle.rap_grammar_scripts.specs.Test.{Test, holds};
 ghost use Rattle.rap_grammar_scripts.specs.Words.{of_bool};
 
@@ -32,7 +32,7 @@ pub fn modifiers<G: Grammar>(
     g: &G,
     is_in_extern: bool,
 ) -> Result<ItemModifiers, NoMemory>
-    requires within { Within G.valid G.left g.now (state p.old) }
+    requires within { Within G.valid G.left g.now p.old }
     ensures script { IfOk result
         (λ found. Does (G.left g.now) (script.modifiers is_in_extern) (again found.has_mods found.has_extern)
         (state p.old) (state p.new)) }
@@ -73,7 +73,7 @@ fn is_impl_restriction(p: &Parser<'_>) -> bool
 /// An `impl` restriction of a trait, as `impl(crate)`, if it comes next. Returns whether it does.
 #[tactic(auto, unfolding(rap_grammar_scripts::specs::Modifiers::opt_impl_restriction))]
 fn opt_impl_restriction<G: Grammar>(p: &mut Parser<'_>, g: &G) -> Result<bool, NoMemory>
-    requires within { Within G.valid G.left g.now (state p.old) }
+    requires within { Within G.valid G.left g.now p.old }
     ensures script { IfOk result
         (λ found. Does (G.left g.now) script.opt_impl_restriction (of_bool found) (state p.old) (state p.new)) }
 {
@@ -87,9 +87,9 @@ fn opt_impl_restriction<G: Grammar>(p: &mut Parser<'_>, g: &G) -> Result<bool, N
 /// An `impl` restriction of a trait, as `impl(crate)`.
 #[tactic(auto, unfolding(rap_grammar_scripts::specs::Modifiers::impl_restriction))]
 fn impl_restriction<G: Grammar>(p: &mut Parser<'_>, g: &G) -> Result<(), NoMemory>
-    requires within { Within G.valid G.left g.now (state p.old) }
+    requires within { Within G.valid G.left g.now p.old }
     requires here { next (state p.old) ≡ IMPL_KW }
-    ensures script { OnOk result (Does (G.left g.now) script.impl_restriction something (state p.old) (state p.new)) }
+    ensures script { OnOk result (Executes (G.left g.now) script.impl_restriction p.old p.new) }
 {
     let m = p.start()?;
     p.bump(T![impl])?;

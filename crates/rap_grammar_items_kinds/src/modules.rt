@@ -7,9 +7,8 @@ ghost use Rattle.rap_events.specs.Forest.{node};
 ghost use Rattle.rap_events.specs.State.{state, last_children, next, NthAt};
 ghost use Rattle.rap_grammar_frame.specs.Grew.{Within, Behind};
 ghost use Rattle.rap_grammar_scripts.specs.Modules as script;
-ghost use Rattle.rap_grammar_scripts.specs.Exec.{Does};
-ghost use Rattle.rap_grammar_facts.specs.Alone.{DoesAlone};
-ghost use Rattle.rap_grammar_scripts.specs.Script.{something};
+ghost use Rattle.rap_grammar_scripts.specs.Exec.{Executes};
+ghost use Rattle.rap_grammar_facts.specs.Alone.{ExecutesAlone};
 ghost use Rattle.rap_grammar_scripts.specs.Test.{holds};
 
 use crate::consts::konst;
@@ -29,7 +28,7 @@ pub fn extern_crate(p: &mut Parser<'_>, m: Marker) -> Result<(), NoMemory>
     requires newest { (state p.old).marker ≡ Some m.pos.value }
     requires here { next (state p.old) ≡ EXTERN_KW }
     requires more { NthAt (state p.old) 1 CRATE_KW }
-    ensures script { OnOk result (DoesAlone script.extern_crate something (state p.old) (state p.new)) }
+    ensures script { OnOk result (ExecutesAlone script.extern_crate p.old p.new) }
 {
     p.bump(T![extern])?;
     p.bump(T![crate])?;
@@ -47,9 +46,8 @@ pub fn mod_contents<G: Grammar>(
     g: &G,
     stop_on_r_curly: bool,
 ) -> Result<(), NoMemory>
-    requires behind { Behind G.valid G.left g.now (state p.old) }
-    ensures script { OnOk result
-        (Does (G.left g.now) (script.mod_contents stop_on_r_curly) something (state p.old) (state p.new)) }
+    requires behind { Behind G.valid G.left g.now p.old }
+    ensures script { OnOk result (Executes (G.left g.now) (script.mod_contents stop_on_r_curly) p.old p.new) }
 {
     inner_attrs(p, g)?;
     items(p, g, stop_on_r_curly)?;
@@ -67,9 +65,8 @@ fn ends_items(p: &Parser<'_>, stop_on_r_curly: bool) -> bool
 /// Items one after another.
 #[tactic(auto, using(rap_grammar_frame::proofs::Done::less_left, rap_grammar_frame::proofs::Loops::turns), unfolding(rap_grammar_scripts::specs::Modules::items))]
 fn items<G: Grammar>(p: &mut Parser<'_>, g: &G, stop_on_r_curly: bool) -> Result<(), NoMemory>
-    requires behind { Behind G.valid G.left g.now (state p.old) }
-    ensures script { OnOk result
-        (Does (G.left g.now) (script.items stop_on_r_curly) something (state p.old) (state p.new)) }
+    requires behind { Behind G.valid G.left g.now p.old }
+    ensures script { OnOk result (Executes (G.left g.now) (script.items stop_on_r_curly) p.old p.new) }
 {
     // `safe fn` may stand anywhere: there is nothing else that it could be.
     let is_in_extern = true;
@@ -88,11 +85,11 @@ fn items<G: Grammar>(p: &mut Parser<'_>, g: &G, stop_on_r_curly: bool) -> Result
 /// The items of a module in their braces.
 #[tactic(auto, using(rap_grammar_frame::proofs::Done::marker_kept, rap_grammar_frame::proofs::Ended::below_kept, rap_grammar_facts::proofs::Modules::level_mod_contents), unfolding(rap_grammar_scripts::specs::Modules::item_list))]
 pub fn item_list<G: Grammar>(p: &mut Parser<'_>, g: &G) -> Result<(), NoMemory>
-    requires within { Within G.valid G.left g.now (state p.old) }
+    requires within { Within G.valid G.left g.now p.old }
     requires here { next (state p.old) ≡ L_CURLY }
     ensures one { OnOk result
         ((state p.new).forest ≡ node (state p.old).forest ITEM_LIST (last_children (state p.new).forest)) }
-    ensures script { OnOk result (Does (G.left g.now) script.item_list something (state p.old) (state p.new)) }
+    ensures script { OnOk result (Executes (G.left g.now) script.item_list p.old p.new) }
 {
     let m = p.start()?;
     p.bump(T!['{'])?;
@@ -105,11 +102,11 @@ pub fn item_list<G: Grammar>(p: &mut Parser<'_>, g: &G) -> Result<(), NoMemory>
 /// The items of an `extern` block in their braces.
 #[tactic(auto, using(rap_grammar_frame::proofs::Done::marker_kept, rap_grammar_frame::proofs::Ended::below_kept, rap_grammar_facts::proofs::Modules::level_mod_contents), unfolding(rap_grammar_scripts::specs::Modules::extern_item_list))]
 pub fn extern_item_list<G: Grammar>(p: &mut Parser<'_>, g: &G) -> Result<(), NoMemory>
-    requires within { Within G.valid G.left g.now (state p.old) }
+    requires within { Within G.valid G.left g.now p.old }
     requires here { next (state p.old) ≡ L_CURLY }
     ensures one { OnOk result
         ((state p.new).forest ≡ node (state p.old).forest EXTERN_ITEM_LIST (last_children (state p.new).forest)) }
-    ensures script { OnOk result (Does (G.left g.now) script.extern_item_list something (state p.old) (state p.new)) }
+    ensures script { OnOk result (Executes (G.left g.now) script.extern_item_list p.old p.new) }
 {
     let m = p.start()?;
     p.bump(T!['{'])?;
@@ -122,10 +119,10 @@ pub fn extern_item_list<G: Grammar>(p: &mut Parser<'_>, g: &G) -> Result<(), NoM
 /// A module from its keyword on, as `mod a;` and `mod a {}`.
 #[tactic(auto, using(rap_grammar_frame::proofs::Done::marker_kept, rap_grammar_facts::proofs::Modules::level_mod_body), unfolding(rap_grammar_scripts::specs::Modules::mod_item))]
 pub fn mod_item<G: Grammar>(p: &mut Parser<'_>, g: &G, m: Marker) -> Result<(), NoMemory>
-    requires within { Within G.valid G.left g.now (state p.old) }
+    requires within { Within G.valid G.left g.now p.old }
     requires newest { (state p.old).marker ≡ Some m.pos.value }
     requires here { next (state p.old) ≡ MOD_KW }
-    ensures script { OnOk result (Does (G.left g.now) script.mod_item something (state p.old) (state p.new)) }
+    ensures script { OnOk result (Executes (G.left g.now) script.mod_item p.old p.new) }
 {
     p.bump(T![mod])?;
     name(p)?;
@@ -137,8 +134,8 @@ pub fn mod_item<G: Grammar>(p: &mut Parser<'_>, g: &G, m: Marker) -> Result<(), 
 /// What a module holds, or the semicolon in its place.
 #[tactic(auto, unfolding(rap_grammar_scripts::specs::Modules::mod_body))]
 fn mod_body<G: Grammar>(p: &mut Parser<'_>, g: &G) -> Result<(), NoMemory>
-    requires within { Within G.valid G.left g.now (state p.old) }
-    ensures script { OnOk result (Does (G.left g.now) script.mod_body something (state p.old) (state p.new)) }
+    requires within { Within G.valid G.left g.now p.old }
+    ensures script { OnOk result (Executes (G.left g.now) script.mod_body p.old p.new) }
 {
     if p.at(T!['{']) {
         item_list(p, g)?;
@@ -154,10 +151,10 @@ fn mod_body<G: Grammar>(p: &mut Parser<'_>, g: &G) -> Result<(), NoMemory>
 /// What begins with `type`: a type alias, or a constant after `type const`.
 #[tactic(auto, unfolding(rap_grammar_scripts::specs::Modules::type_item))]
 pub fn type_item<G: Grammar>(p: &mut Parser<'_>, g: &G, m: Marker) -> Result<(), NoMemory>
-    requires within { Within G.valid G.left g.now (state p.old) }
+    requires within { Within G.valid G.left g.now p.old }
     requires newest { (state p.old).marker ≡ Some m.pos.value }
     requires here { next (state p.old) ≡ TYPE_KW }
-    ensures script { OnOk result (Does (G.left g.now) script.type_item something (state p.old) (state p.new)) }
+    ensures script { OnOk result (Executes (G.left g.now) script.type_item p.old p.new) }
 {
     if p.nth_at(1, T![const]) {
         konst(p, g, m)?;
@@ -170,10 +167,10 @@ pub fn type_item<G: Grammar>(p: &mut Parser<'_>, g: &G, m: Marker) -> Result<(),
 /// A type alias, as `type A<T>: B = c where T: D;`.
 #[tactic(auto, using(rap_grammar_facts::proofs::Modules::fewer_alias_bounds, rap_grammar_facts::proofs::Modules::marker_alias_bounds, rap_grammar_facts::proofs::Modules::fewer_aliased_type, rap_grammar_facts::proofs::Modules::marker_aliased_type), unfolding(rap_grammar_scripts::specs::Modules::type_alias))]
 fn type_alias<G: Grammar>(p: &mut Parser<'_>, g: &G, m: Marker) -> Result<(), NoMemory>
-    requires within { Within G.valid G.left g.now (state p.old) }
+    requires within { Within G.valid G.left g.now p.old }
     requires newest { (state p.old).marker ≡ Some m.pos.value }
     requires here { next (state p.old) ≡ TYPE_KW }
-    ensures script { OnOk result (Does (G.left g.now) script.type_alias something (state p.old) (state p.new)) }
+    ensures script { OnOk result (Executes (G.left g.now) script.type_alias p.old p.new) }
 {
     p.bump(T![type])?;
     name(p)?;
@@ -190,8 +187,8 @@ fn type_alias<G: Grammar>(p: &mut Parser<'_>, g: &G, m: Marker) -> Result<(), No
 /// The bounds of a type alias, as `: A`, if there are.
 #[tactic(auto, unfolding(rap_grammar_scripts::specs::Modules::alias_bounds))]
 fn alias_bounds<G: Grammar>(p: &mut Parser<'_>, g: &G) -> Result<(), NoMemory>
-    requires within { Within G.valid G.left g.now (state p.old) }
-    ensures script { OnOk result (Does (G.left g.now) script.alias_bounds something (state p.old) (state p.new)) }
+    requires within { Within G.valid G.left g.now p.old }
+    ensures script { OnOk result (Executes (G.left g.now) script.alias_bounds p.old p.new) }
 {
     if !p.at(T![:]) {
         return Ok(());
@@ -203,8 +200,8 @@ fn alias_bounds<G: Grammar>(p: &mut Parser<'_>, g: &G) -> Result<(), NoMemory>
 /// The type of a type alias, as `= a`, if there is one.
 #[tactic(auto, unfolding(rap_grammar_scripts::specs::Modules::aliased_type))]
 fn aliased_type<G: Grammar>(p: &mut Parser<'_>, g: &G) -> Result<(), NoMemory>
-    requires within { Within G.valid G.left g.now (state p.old) }
-    ensures script { OnOk result (Does (G.left g.now) script.aliased_type something (state p.old) (state p.new)) }
+    requires within { Within G.valid G.left g.now p.old }
+    ensures script { OnOk result (Executes (G.left g.now) script.aliased_type p.old p.new) }
 {
     if !p.eat(T![=])? {
         return Ok(());

@@ -5,9 +5,8 @@ ghost use Rattle.rap_base.specs.TokenKind.{EOF, L_CURLY, BANG, TRAIT_KW, IMPL_KW
 ghost use Rattle.rap_events.specs.Forest.{node};
 ghost use Rattle.rap_events.specs.State.{state, last_children, next};
 ghost use Rattle.rap_grammar_frame.specs.Grew.{Within, Behind};
-ghost use Rattle.rap_grammar_scripts.specs.Exec.{Does};
-ghost use Rattle.rap_grammar_facts.specs.Alone.{DoesAlone};
-ghost use Rattle.rap_grammar_scripts.specs.Script.{something};
+ghost use Rattle.rap_grammar_scripts.specs.Exec.{Executes};
+ghost use Rattle.rap_grammar_facts.specs.Alone.{ExecutesAlone};
 ghost use Rattle.rap_grammar_scripts.specs.Test.{holds};
 ghost use Rattle.rap_grammar_scripts.specs.Traits as script;
 
@@ -27,10 +26,10 @@ use rap_grammar_scripts::rule::Rule;
 /// A trait from its keyword on, as `trait A {}`.
 #[tactic(auto, using(rap_grammar_frame::proofs::Done::marker_kept, rap_grammar_facts::proofs::Traits::level_trait_body), unfolding(rap_grammar_scripts::specs::Traits::trait_))]
 pub fn trait_<G: Grammar>(p: &mut Parser<'_>, g: &G, m: Marker) -> Result<(), NoMemory>
-    requires within { Within G.valid G.left g.now (state p.old) }
+    requires within { Within G.valid G.left g.now p.old }
     requires newest { (state p.old).marker ≡ Some m.pos.value }
     requires here { next (state p.old) ≡ TRAIT_KW }
-    ensures script { OnOk result (Does (G.left g.now) script.trait_ something (state p.old) (state p.new)) }
+    ensures script { OnOk result (Executes (G.left g.now) script.trait_ p.old p.new) }
 {
     p.bump(T![trait])?;
     item_name(p)?;
@@ -43,8 +42,8 @@ pub fn trait_<G: Grammar>(p: &mut Parser<'_>, g: &G, m: Marker) -> Result<(), No
 /// What stands after a trait's name and parameters.
 #[tactic(auto, using(rap_grammar_frame::proofs::Done::less_left), unfolding(rap_grammar_scripts::specs::Traits::trait_body))]
 fn trait_body<G: Grammar>(p: &mut Parser<'_>, g: &G) -> Result<(), NoMemory>
-    requires behind { Behind G.valid G.left g.now (state p.old) }
-    ensures script { OnOk result (Does (G.left g.now) script.trait_body something (state p.old) (state p.new)) }
+    requires behind { Behind G.valid G.left g.now p.old }
+    ensures script { OnOk result (Executes (G.left g.now) script.trait_body p.old p.new) }
 {
     if p.eat(T![=])? {
         trait_alias(p, g)?;
@@ -59,8 +58,8 @@ fn trait_body<G: Grammar>(p: &mut Parser<'_>, g: &G) -> Result<(), NoMemory>
 /// The bounds of a trait alias, after its `=`, as the `A + B;` of `trait C = A + B;`.
 #[tactic(auto, unfolding(rap_grammar_scripts::specs::Traits::trait_alias))]
 fn trait_alias<G: Grammar>(p: &mut Parser<'_>, g: &G) -> Result<(), NoMemory>
-    requires behind { Behind G.valid G.left g.now (state p.old) }
-    ensures script { OnOk result (Does (G.left g.now) script.trait_alias something (state p.old) (state p.new)) }
+    requires behind { Behind G.valid G.left g.now p.old }
+    ensures script { OnOk result (Executes (G.left g.now) script.trait_alias p.old p.new) }
 {
     bounds_without_colon(p, g)?;
     opt_where_clause(p, g)?;
@@ -71,8 +70,8 @@ fn trait_alias<G: Grammar>(p: &mut Parser<'_>, g: &G) -> Result<(), NoMemory>
 /// Bounds after their colon, if there are.
 #[tactic(auto, unfolding(rap_grammar_scripts::specs::Traits::opt_bounds))]
 fn opt_bounds<G: Grammar>(p: &mut Parser<'_>, g: &G) -> Result<(), NoMemory>
-    requires within { Within G.valid G.left g.now (state p.old) }
-    ensures script { OnOk result (Does (G.left g.now) script.opt_bounds something (state p.old) (state p.new)) }
+    requires within { Within G.valid G.left g.now p.old }
+    ensures script { OnOk result (Executes (G.left g.now) script.opt_bounds p.old p.new) }
 {
     if p.at(T![:]) {
         bounds(p, g)?;
@@ -83,10 +82,10 @@ fn opt_bounds<G: Grammar>(p: &mut Parser<'_>, g: &G) -> Result<(), NoMemory>
 /// An implementation from its keyword on, as `impl A for b {}`.
 #[tactic(auto, using(rap_grammar_facts::proofs::Traits::fewer_impl_params, rap_grammar_facts::proofs::Traits::marker_impl_params, rap_grammar_facts::proofs::Traits::fewer_opt_negative, rap_grammar_facts::proofs::Traits::marker_opt_negative, rap_grammar_facts::proofs::Traits::fewer_impl_types, rap_grammar_facts::proofs::Traits::marker_impl_types, rap_grammar_facts::proofs::Traits::marker_expect_assoc_item_list), unfolding(rap_grammar_scripts::specs::Traits::impl_))]
 pub fn impl_<G: Grammar>(p: &mut Parser<'_>, g: &G, m: Marker) -> Result<(), NoMemory>
-    requires within { Within G.valid G.left g.now (state p.old) }
+    requires within { Within G.valid G.left g.now p.old }
     requires newest { (state p.old).marker ≡ Some m.pos.value }
     requires here { next (state p.old) ≡ IMPL_KW }
-    ensures script { OnOk result (Does (G.left g.now) script.impl_ something (state p.old) (state p.new)) }
+    ensures script { OnOk result (Executes (G.left g.now) script.impl_ p.old p.new) }
 {
     p.bump(T![impl])?;
     impl_params(p, g)?;
@@ -102,8 +101,8 @@ pub fn impl_<G: Grammar>(p: &mut Parser<'_>, g: &G, m: Marker) -> Result<(), NoM
 /// The parameters of an implementation, as the `<T>` of `impl<T> A {}`, if there are.
 #[tactic(auto, unfolding(rap_grammar_scripts::specs::Traits::impl_params))]
 fn impl_params<G: Grammar>(p: &mut Parser<'_>, g: &G) -> Result<(), NoMemory>
-    requires behind { Behind G.valid G.left g.now (state p.old) }
-    ensures script { OnOk result (Does (G.left g.now) script.impl_params something (state p.old) (state p.new)) }
+    requires behind { Behind G.valid G.left g.now p.old }
+    ensures script { OnOk result (Executes (G.left g.now) script.impl_params p.old p.new) }
 {
     if is_impl_params_start(p) {
         opt_generic_param_list(p, g)?;
@@ -131,7 +130,7 @@ fn not_a_qualified_path(p: &Parser<'_>) -> bool
 /// A `!` before a trait, as in `impl !A for b {}`, if there is one.
 #[tactic(auto, unfolding(rap_grammar_scripts::specs::Traits::opt_negative))]
 fn opt_negative(p: &mut Parser<'_>) -> Result<(), NoMemory>
-    ensures script { OnOk result (DoesAlone script.opt_negative something (state p.old) (state p.new)) }
+    ensures script { OnOk result (ExecutesAlone script.opt_negative p.old p.new) }
 {
     if is_negative_start(p) {
         p.bump(T![!])?;
@@ -150,8 +149,8 @@ fn is_negative_start(p: &Parser<'_>) -> bool
 /// The type of an implementation, with the trait before it.
 #[tactic(auto, using(rap_grammar_frame::proofs::Done::less_left), unfolding(rap_grammar_scripts::specs::Traits::impl_types))]
 fn impl_types<G: Grammar>(p: &mut Parser<'_>, g: &G) -> Result<(), NoMemory>
-    requires behind { Behind G.valid G.left g.now (state p.old) }
-    ensures script { OnOk result (Does (G.left g.now) script.impl_types something (state p.old) (state p.new)) }
+    requires behind { Behind G.valid G.left g.now p.old }
+    ensures script { OnOk result (Executes (G.left g.now) script.impl_types p.old p.new) }
 {
     impl_type(p, g)?;
     if p.eat(T![for])? {
@@ -163,8 +162,8 @@ fn impl_types<G: Grammar>(p: &mut Parser<'_>, g: &G) -> Result<(), NoMemory>
 /// A trait or a type of an implementation.
 #[tactic(auto, unfolding(rap_grammar_scripts::specs::Traits::impl_type))]
 pub fn impl_type<G: Grammar>(p: &mut Parser<'_>, g: &G) -> Result<(), NoMemory>
-    requires behind { Behind G.valid G.left g.now (state p.old) }
-    ensures script { OnOk result (Does (G.left g.now) script.impl_type something (state p.old) (state p.new)) }
+    requires behind { Behind G.valid G.left g.now p.old }
+    ensures script { OnOk result (Executes (G.left g.now) script.impl_type p.old p.new) }
 {
     if p.at(T![impl]) {
         p.error("expected trait or type")?;
@@ -177,9 +176,8 @@ pub fn impl_type<G: Grammar>(p: &mut Parser<'_>, g: &G) -> Result<(), NoMemory>
 /// The items of a trait or an implementation. Where their braces are missing, that is reported.
 #[tactic(auto, unfolding(rap_grammar_scripts::specs::Traits::expect_assoc_item_list))]
 fn expect_assoc_item_list<G: Grammar>(p: &mut Parser<'_>, g: &G) -> Result<(), NoMemory>
-    requires within { Within G.valid G.left g.now (state p.old) }
-    ensures script { OnOk result
-        (Does (G.left g.now) script.expect_assoc_item_list something (state p.old) (state p.new)) }
+    requires within { Within G.valid G.left g.now p.old }
+    ensures script { OnOk result (Executes (G.left g.now) script.expect_assoc_item_list p.old p.new) }
 {
     if p.at(T!['{']) {
         assoc_item_list(p, g)?;
@@ -192,11 +190,11 @@ fn expect_assoc_item_list<G: Grammar>(p: &mut Parser<'_>, g: &G) -> Result<(), N
 /// The items of a trait or an implementation in their braces.
 #[tactic(auto, using(rap_grammar_facts::proofs::Traits::marker_assoc_items, rap_grammar_facts::proofs::Traits::below_assoc_items), unfolding(rap_grammar_scripts::specs::Traits::assoc_item_list))]
 pub fn assoc_item_list<G: Grammar>(p: &mut Parser<'_>, g: &G) -> Result<(), NoMemory>
-    requires within { Within G.valid G.left g.now (state p.old) }
+    requires within { Within G.valid G.left g.now p.old }
     requires here { next (state p.old) ≡ L_CURLY }
     ensures one { OnOk result
         ((state p.new).forest ≡ node (state p.old).forest ASSOC_ITEM_LIST (last_children (state p.new).forest)) }
-    ensures script { OnOk result (Does (G.left g.now) script.assoc_item_list something (state p.old) (state p.new)) }
+    ensures script { OnOk result (Executes (G.left g.now) script.assoc_item_list p.old p.new) }
 {
     let m = p.start()?;
     p.bump(T!['{'])?;
@@ -210,8 +208,8 @@ pub fn assoc_item_list<G: Grammar>(p: &mut Parser<'_>, g: &G) -> Result<(), NoMe
 /// Items up to the brace that closes their list.
 #[tactic(auto, using(rap_grammar_frame::proofs::Done::less_left, rap_grammar_facts::proofs::Traits::inside_assoc_item, rap_grammar_frame::proofs::Loops::turns), unfolding(rap_grammar_scripts::specs::Traits::assoc_items))]
 fn assoc_items<G: Grammar>(p: &mut Parser<'_>, g: &G) -> Result<(), NoMemory>
-    requires behind { Behind G.valid G.left g.now (state p.old) }
-    ensures script { OnOk result (Does (G.left g.now) script.assoc_items something (state p.old) (state p.new)) }
+    requires behind { Behind G.valid G.left g.now p.old }
+    ensures script { OnOk result (Executes (G.left g.now) script.assoc_items p.old p.new) }
 {
     'items: while !p.at(SyntaxKind::EOF) && !p.at(T!['}']) {
         assoc_item(p, g)?;
@@ -222,8 +220,8 @@ fn assoc_items<G: Grammar>(p: &mut Parser<'_>, g: &G) -> Result<(), NoMemory>
 /// An item of a trait or an implementation. A block in its place is reported.
 #[tactic(auto, unfolding(rap_grammar_scripts::specs::Traits::assoc_item, rap_grammar_scripts::specs::ThroughKnot::item_or_macro))]
 fn assoc_item<G: Grammar>(p: &mut Parser<'_>, g: &G) -> Result<(), NoMemory>
-    requires behind { Behind G.valid G.left g.now (state p.old) }
-    ensures script { OnOk result (Does (G.left g.now) script.assoc_item something (state p.old) (state p.new)) }
+    requires behind { Behind G.valid G.left g.now p.old }
+    ensures script { OnOk result (Executes (G.left g.now) script.assoc_item p.old p.new) }
 {
     if p.at(T!['{']) {
         error_block(p, g, "expected an item")?;

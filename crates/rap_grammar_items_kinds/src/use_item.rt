@@ -7,8 +7,7 @@ ghost use Rattle.rap_events.specs.Composite.{is_at};
 ghost use Rattle.rap_events.specs.Forest.{node};
 ghost use Rattle.rap_events.specs.State.{state, last_children, next};
 ghost use Rattle.rap_grammar_frame.specs.Grew.{Within};
-ghost use Rattle.rap_grammar_scripts.specs.Exec.{Does};
-ghost use Rattle.rap_grammar_scripts.specs.Script.{something};
+ghost use Rattle.rap_grammar_scripts.specs.Exec.{Executes};
 ghost use Rattle.rap_grammar_scripts.specs.Test.{holds};
 ghost use Rattle.rap_grammar_scripts.specs.UseItem as script;
 ghost use Rattle.rap_grammar_scripts.specs.UseItem.{is_group_first, is_global_group_start, is_use_tree_start};
@@ -29,10 +28,10 @@ use rap_grammar_scripts::rule::Rule;
 /// An import from its keyword on, as `use a::b;`.
 #[tactic(auto, using(rap_grammar_frame::proofs::Done::marker_kept, rap_grammar_facts::proofs::UseItem::level_expect_use_tree), unfolding(rap_grammar_scripts::specs::UseItem::use_))]
 pub fn use_<G: Grammar>(p: &mut Parser<'_>, g: &G, m: Marker) -> Result<(), NoMemory>
-    requires within { Within G.valid G.left g.now (state p.old) }
+    requires within { Within G.valid G.left g.now p.old }
     requires newest { (state p.old).marker ≡ Some m.pos.value }
     requires here { next (state p.old) ≡ USE_KW }
-    ensures script { OnOk result (Does (G.left g.now) script.use_ something (state p.old) (state p.new)) }
+    ensures script { OnOk result (Executes (G.left g.now) script.use_ p.old p.new) }
 {
     p.bump(T![use])?;
     expect_use_tree(p, g)?;
@@ -46,8 +45,8 @@ pub fn use_<G: Grammar>(p: &mut Parser<'_>, g: &G, m: Marker) -> Result<(), NoMe
 #[inline(never)]
 #[tactic(auto, unfolding(rap_grammar_scripts::specs::UseItem::expect_use_tree))]
 fn expect_use_tree<G: Grammar>(p: &mut Parser<'_>, g: &G) -> Result<(), NoMemory>
-    requires within { Within G.valid G.left g.now (state p.old) }
-    ensures script { OnOk result (Does (G.left g.now) script.expect_use_tree something (state p.old) (state p.new)) }
+    requires within { Within G.valid G.left g.now p.old }
+    ensures script { OnOk result (Executes (G.left g.now) script.expect_use_tree p.old p.new) }
 {
     if is_use_tree_start(p) {
         use_tree(p, g)?;
@@ -85,9 +84,9 @@ fn is_global_group_start(p: &Parser<'_>) -> bool
 /// A tree of names, as `a::{b, c as d}`, of which one begins.
 #[tactic(auto, using(rap_grammar_facts::proofs::Paths::fewer_use_path, rap_grammar_facts::proofs::Paths::marker_use_path, rap_grammar_frame::proofs::Done::marker_kept, rap_grammar_facts::proofs::UseItem::level_group, rap_grammar_facts::proofs::UseItem::level_after_use_path), unfolding(rap_grammar_scripts::specs::UseItem::use_tree))]
 pub fn use_tree<G: Grammar>(p: &mut Parser<'_>, g: &G) -> Result<(), NoMemory>
-    requires within { Within G.valid G.left g.now (state p.old) }
+    requires within { Within G.valid G.left g.now p.old }
     requires here { holds is_use_tree_start (state p.old).rest ≡ true }
-    ensures script { OnOk result (Does (G.left g.now) script.use_tree something (state p.old) (state p.new)) }
+    ensures script { OnOk result (Executes (G.left g.now) script.use_tree p.old p.new) }
 {
     let m = p.start()?;
     if is_group_first(p.current()) {
@@ -110,9 +109,9 @@ pub fn use_tree<G: Grammar>(p: &mut Parser<'_>, g: &G) -> Result<(), NoMemory>
 /// A star, or a list in its braces.
 #[tactic(auto, unfolding(rap_grammar_scripts::specs::UseItem::group))]
 fn group<G: Grammar>(p: &mut Parser<'_>, g: &G) -> Result<(), NoMemory>
-    requires within { Within G.valid G.left g.now (state p.old) }
+    requires within { Within G.valid G.left g.now p.old }
     requires first { is_group_first (next (state p.old)) ≡ true }
-    ensures script { OnOk result (Does (G.left g.now) script.group something (state p.old) (state p.new)) }
+    ensures script { OnOk result (Executes (G.left g.now) script.group p.old p.new) }
 {
     if p.eat(T![*])? {
         return Ok(());
@@ -124,8 +123,8 @@ fn group<G: Grammar>(p: &mut Parser<'_>, g: &G) -> Result<(), NoMemory>
 /// What stands after a path: a name for it, as `as a`, or names in it, as `::{a, b}`.
 #[tactic(auto, unfolding(rap_grammar_scripts::specs::UseItem::after_use_path))]
 fn after_use_path<G: Grammar>(p: &mut Parser<'_>, g: &G) -> Result<(), NoMemory>
-    requires within { Within G.valid G.left g.now (state p.old) }
-    ensures script { OnOk result (Does (G.left g.now) script.after_use_path something (state p.old) (state p.new)) }
+    requires within { Within G.valid G.left g.now p.old }
+    ensures script { OnOk result (Executes (G.left g.now) script.after_use_path p.old p.new) }
 {
     if p.at(T![as]) {
         opt_rename(p)?;
@@ -140,9 +139,9 @@ fn after_use_path<G: Grammar>(p: &mut Parser<'_>, g: &G) -> Result<(), NoMemory>
 /// A star, or a list in its braces, after a path and `::`.
 #[tactic(auto, unfolding(rap_grammar_scripts::specs::UseItem::group_behind))]
 fn group_behind<G: Grammar>(p: &mut Parser<'_>, g: &G) -> Result<(), NoMemory>
-    requires within { Within G.valid G.left g.now (state p.old) }
+    requires within { Within G.valid G.left g.now p.old }
     requires here { is_at COLON2 (state p.old).rest ≡ true }
-    ensures script { OnOk result (Does (G.left g.now) script.group_behind something (state p.old) (state p.new)) }
+    ensures script { OnOk result (Executes (G.left g.now) script.group_behind p.old p.new) }
 {
     p.bump(T![::])?;
     if is_group_first(p.current()) {
@@ -156,11 +155,11 @@ fn group_behind<G: Grammar>(p: &mut Parser<'_>, g: &G) -> Result<(), NoMemory>
 /// Trees in their braces, as `{a, b::c}`.
 #[tactic(auto, unfolding(rap_grammar_scripts::specs::UseItem::use_tree_list))]
 pub fn use_tree_list<G: Grammar>(p: &mut Parser<'_>, g: &G) -> Result<(), NoMemory>
-    requires within { Within G.valid G.left g.now (state p.old) }
+    requires within { Within G.valid G.left g.now p.old }
     requires here { next (state p.old) ≡ L_CURLY }
     ensures one { OnOk result
         ((state p.new).forest ≡ node (state p.old).forest USE_TREE_LIST (last_children (state p.new).forest)) }
-    ensures script { OnOk result (Does (G.left g.now) script.use_tree_list something (state p.old) (state p.new)) }
+    ensures script { OnOk result (Executes (G.left g.now) script.use_tree_list p.old p.new) }
 {
     let m = p.start()?;
     delimited(

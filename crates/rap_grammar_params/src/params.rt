@@ -5,10 +5,9 @@ ghost use Rattle.rap_base.specs.TokenKind.{L_PAREN, PIPE, EOF, SELF_KW};
 ghost use Rattle.rap_events.specs.State.{state, next, At};
 ghost use Rattle.rap_grammar_scripts.specs.First.{is_param_first};
 ghost use Rattle.rap_grammar_frame.specs.Grew.{Within, Behind};
-ghost use Rattle.rap_grammar_scripts.specs.Exec.{Does};
-ghost use Rattle.rap_grammar_facts.specs.Alone.{DoesAlone};
+ghost use Rattle.rap_grammar_scripts.specs.Exec.{Does, Executes};
+ghost use Rattle.rap_grammar_facts.specs.Alone.{DoesAlone, ExecutesAlone};
 ghost use Rattle.rap_grammar_scripts.specs.Params as script;
-ghost use Rattle.rap_grammar_scripts.specs.Script.{something};
 ghost use Rattle.rap_grammar_scripts.specs.Test.{holds};
 ghost use Rattle.rap_grammar_scripts.specs.Words.{of_bool};
 
@@ -26,9 +25,9 @@ use rap_grammar_scripts::arguments::Flavor;
 /// The parameters of a function, as `(&self, a: b)`.
 #[tactic(auto, unfolding(rap_grammar_scripts::specs::Params::param_list_fn_def))]
 pub fn param_list_fn_def<G: Grammar>(p: &mut Parser<'_>, g: &G) -> Result<(), NoMemory>
-    requires within { Within G.valid G.left g.now (state p.old) }
+    requires within { Within G.valid G.left g.now p.old }
     requires here { next (state p.old) ≡ L_PAREN }
-    ensures script { OnOk result (Does (G.left g.now) script.param_list_fn_def something (state p.old) (state p.new)) }
+    ensures script { OnOk result (Executes (G.left g.now) script.param_list_fn_def p.old p.new) }
 {
     list_(p, g, Flavor::FnDef)?;
     Ok(())
@@ -37,9 +36,9 @@ pub fn param_list_fn_def<G: Grammar>(p: &mut Parser<'_>, g: &G) -> Result<(), No
 /// The parameters of a function pointer, as `(a, _: b)`.
 #[tactic(auto, unfolding(rap_grammar_scripts::specs::Params::param_list_fn_ptr))]
 pub fn param_list_fn_ptr<G: Grammar>(p: &mut Parser<'_>, g: &G) -> Result<(), NoMemory>
-    requires within { Within G.valid G.left g.now (state p.old) }
+    requires within { Within G.valid G.left g.now p.old }
     requires here { next (state p.old) ≡ L_PAREN }
-    ensures script { OnOk result (Does (G.left g.now) script.param_list_fn_ptr something (state p.old) (state p.new)) }
+    ensures script { OnOk result (Executes (G.left g.now) script.param_list_fn_ptr p.old p.new) }
 {
     list_(p, g, Flavor::FnPointer)?;
     Ok(())
@@ -48,9 +47,9 @@ pub fn param_list_fn_ptr<G: Grammar>(p: &mut Parser<'_>, g: &G) -> Result<(), No
 /// The parameters of a closure, as `|a, b: c|`.
 #[tactic(auto, unfolding(rap_grammar_scripts::specs::Params::param_list_closure))]
 pub fn param_list_closure<G: Grammar>(p: &mut Parser<'_>, g: &G) -> Result<(), NoMemory>
-    requires within { Within G.valid G.left g.now (state p.old) }
+    requires within { Within G.valid G.left g.now p.old }
     requires here { next (state p.old) ≡ PIPE }
-    ensures script { OnOk result (Does (G.left g.now) script.param_list_closure something (state p.old) (state p.new)) }
+    ensures script { OnOk result (Executes (G.left g.now) script.param_list_closure p.old p.new) }
 {
     list_(p, g, Flavor::Closure)?;
     Ok(())
@@ -59,9 +58,9 @@ pub fn param_list_closure<G: Grammar>(p: &mut Parser<'_>, g: &G) -> Result<(), N
 /// The parameters in their brackets.
 #[tactic(auto, using(rap_grammar_frame::proofs::Binary::width_positive, rap_grammar_facts::proofs::Params::marker_params_of), unfolding(rap_grammar_scripts::specs::Params::list_))]
 fn list_<G: Grammar>(p: &mut Parser<'_>, g: &G, flavor: Flavor) -> Result<(), NoMemory>
-    requires within { Within G.valid G.left g.now (state p.old) }
+    requires within { Within G.valid G.left g.now p.old }
     requires here { At (state p.old) (script.bra flavor) }
-    ensures script { OnOk result (Does (G.left g.now) (script.list_ flavor) something (state p.old) (state p.new)) }
+    ensures script { OnOk result (Executes (G.left g.now) (script.list_ flavor) p.old p.new) }
 {
     let m = p.start()?;
     p.bump(flavor.bra())?;
@@ -73,8 +72,8 @@ fn list_<G: Grammar>(p: &mut Parser<'_>, g: &G, flavor: Flavor) -> Result<(), No
 
 /// What stands in the brackets.
 fn params_of<G: Grammar>(p: &mut Parser<'_>, g: &G, flavor: Flavor) -> Result<(), NoMemory>
-    requires behind { Behind G.valid G.left g.now (state p.old) }
-    ensures script { OnOk result (Does (G.left g.now) (script.params_of flavor) something (state p.old) (state p.new)) }
+    requires behind { Behind G.valid G.left g.now p.old }
+    ensures script { OnOk result (Executes (G.left g.now) (script.params_of flavor) p.old p.new) }
 {
     if flavor == Flavor::FnDef {
         fn_def_params(p, g)?;
@@ -87,8 +86,8 @@ fn params_of<G: Grammar>(p: &mut Parser<'_>, g: &G, flavor: Flavor) -> Result<()
 /// The parameters of a function, the first of which may be a `self`.
 #[tactic(auto, using(rap_grammar_frame::proofs::Done::less_left), unfolding(rap_grammar_scripts::specs::Params::fn_def_params))]
 fn fn_def_params<G: Grammar>(p: &mut Parser<'_>, g: &G) -> Result<(), NoMemory>
-    requires behind { Behind G.valid G.left g.now (state p.old) }
-    ensures script { OnOk result (Does (G.left g.now) script.fn_def_params something (state p.old) (state p.new)) }
+    requires behind { Behind G.valid G.left g.now p.old }
+    ensures script { OnOk result (Executes (G.left g.now) script.fn_def_params p.old p.new) }
 {
     if !first_param(p, g)? {
         return Ok(());
@@ -100,7 +99,7 @@ fn fn_def_params<G: Grammar>(p: &mut Parser<'_>, g: &G) -> Result<(), NoMemory>
 /// The first parameter of a function, as `self` or `a: b`. Returns whether another one may follow.
 #[tactic(auto, using(rap_grammar_frame::proofs::Done::less_left, rap_grammar_frame::proofs::Done::marker_kept, rap_grammar_facts::proofs::Params::level_opt_self_param), unfolding(rap_grammar_scripts::specs::Params::first_param))]
 fn first_param<G: Grammar>(p: &mut Parser<'_>, g: &G) -> Result<bool, NoMemory>
-    requires behind { Behind G.valid G.left g.now (state p.old) }
+    requires behind { Behind G.valid G.left g.now p.old }
     ensures script { IfOk result
         (λ on. Does (G.left g.now) script.first_param (of_bool on) (state p.old) (state p.new)) }
 {
@@ -122,7 +121,7 @@ fn first_param<G: Grammar>(p: &mut Parser<'_>, g: &G) -> Result<bool, NoMemory>
 /// The comma after a `self`.
 #[tactic(auto, unfolding(rap_grammar_scripts::specs::Params::after_self))]
 fn after_self(p: &mut Parser<'_>) -> Result<(), NoMemory>
-    ensures script { OnOk result (DoesAlone script.after_self something (state p.old) (state p.new)) }
+    ensures script { OnOk result (ExecutesAlone script.after_self p.old p.new) }
 {
     if !p.at(T![')']) {
         p.expect(T![,])?;
@@ -133,8 +132,8 @@ fn after_self(p: &mut Parser<'_>) -> Result<(), NoMemory>
 /// Parameters with commas between them, up to where the list can't go on.
 #[tactic(auto, using(rap_grammar_frame::proofs::Loops::turns, rap_grammar_frame::proofs::Done::less_left, rap_grammar_facts::proofs::Params::on_attributed_param), unfolding(rap_grammar_scripts::specs::Params::params))]
 fn params<G: Grammar>(p: &mut Parser<'_>, g: &G, flavor: Flavor) -> Result<(), NoMemory>
-    requires behind { Behind G.valid G.left g.now (state p.old) }
-    ensures script { OnOk result (Does (G.left g.now) (script.params flavor) something (state p.old) (state p.new)) }
+    requires behind { Behind G.valid G.left g.now p.old }
+    ensures script { OnOk result (Executes (G.left g.now) (script.params flavor) p.old p.new) }
 {
     'params: while !p.at(SyntaxKind::EOF) && !p.at(flavor.ket()) {
         if !attributed_param(p, g, flavor)? {
@@ -147,7 +146,7 @@ fn params<G: Grammar>(p: &mut Parser<'_>, g: &G, flavor: Flavor) -> Result<(), N
 /// A parameter with its attributes, as `#[a] b: c`. Returns whether another one may follow.
 #[tactic(auto, unfolding(rap_grammar_scripts::specs::Params::attributed_param))]
 fn attributed_param<G: Grammar>(p: &mut Parser<'_>, g: &G, flavor: Flavor) -> Result<bool, NoMemory>
-    requires behind { Behind G.valid G.left g.now (state p.old) }
+    requires behind { Behind G.valid G.left g.now p.old }
     ensures script { IfOk result
         (λ on. Does (G.left g.now) (script.attributed_param flavor) (of_bool on) (state p.old) (state p.new)) }
 {
@@ -165,7 +164,7 @@ fn marked_param<G: Grammar>(
     m: Marker,
     flavor: Flavor,
 ) -> Result<bool, NoMemory>
-    requires behind { Behind G.valid G.left g.now (state p.old) }
+    requires behind { Behind G.valid G.left g.now p.old }
     requires newest { (state p.old).marker ≡ Some m.pos.value }
     ensures script { IfOk result
         (λ on. Does (G.left g.now) (script.marked_param flavor) (of_bool on) (state p.old) (state p.new)) }
@@ -207,9 +206,9 @@ fn after_param(p: &mut Parser<'_>) -> Result<bool, NoMemory>
 
 /// What a parameter is made of.
 fn param<G: Grammar>(p: &mut Parser<'_>, g: &G, flavor: Flavor) -> Result<(), NoMemory>
-    requires behind { Behind G.valid G.left g.now (state p.old) }
+    requires behind { Behind G.valid G.left g.now p.old }
     requires first { is_param_first (next (state p.old)) ≡ true }
-    ensures script { OnOk result (Does (G.left g.now) (script.param flavor) something (state p.old) (state p.new)) }
+    ensures script { OnOk result (Executes (G.left g.now) (script.param flavor) p.old p.new) }
 {
     match flavor {
         Flavor::FnDef => {
@@ -230,9 +229,9 @@ fn param<G: Grammar>(p: &mut Parser<'_>, g: &G, flavor: Flavor) -> Result<(), No
 /// A parameter of a function, as `a: b`, `a: ...` and `...`.
 #[tactic(auto, unfolding(rap_grammar_scripts::specs::Params::fn_def_param))]
 fn fn_def_param<G: Grammar>(p: &mut Parser<'_>, g: &G) -> Result<(), NoMemory>
-    requires behind { Behind G.valid G.left g.now (state p.old) }
+    requires behind { Behind G.valid G.left g.now p.old }
     requires first { is_param_first (next (state p.old)) ≡ true }
-    ensures script { OnOk result (Does (G.left g.now) script.fn_def_param something (state p.old) (state p.new)) }
+    ensures script { OnOk result (Executes (G.left g.now) script.fn_def_param p.old p.new) }
 {
     if p.eat(T![...])? {
         return Ok(());
@@ -245,9 +244,9 @@ fn fn_def_param<G: Grammar>(p: &mut Parser<'_>, g: &G) -> Result<(), NoMemory>
 /// A parameter of a function pointer, as `a`, `_: a` and `...`.
 #[tactic(auto, unfolding(rap_grammar_scripts::specs::Params::fn_ptr_param))]
 fn fn_ptr_param<G: Grammar>(p: &mut Parser<'_>, g: &G) -> Result<(), NoMemory>
-    requires behind { Behind G.valid G.left g.now (state p.old) }
+    requires behind { Behind G.valid G.left g.now p.old }
     requires first { is_param_first (next (state p.old)) ≡ true }
-    ensures script { OnOk result (Does (G.left g.now) script.fn_ptr_param something (state p.old) (state p.new)) }
+    ensures script { OnOk result (Executes (G.left g.now) script.fn_ptr_param p.old p.new) }
 {
     if p.eat(T![...])? {
         return Ok(());
@@ -271,9 +270,9 @@ fn is_named_param(p: &Parser<'_>) -> bool
 /// A parameter of a closure, as `a` and `a: b`.
 #[tactic(auto, unfolding(rap_grammar_scripts::specs::Params::closure_param))]
 fn closure_param<G: Grammar>(p: &mut Parser<'_>, g: &G) -> Result<(), NoMemory>
-    requires behind { Behind G.valid G.left g.now (state p.old) }
+    requires behind { Behind G.valid G.left g.now p.old }
     requires first { is_param_first (next (state p.old)) ≡ true }
-    ensures script { OnOk result (Does (G.left g.now) script.closure_param something (state p.old) (state p.new)) }
+    ensures script { OnOk result (Executes (G.left g.now) script.closure_param p.old p.new) }
 {
     pattern_single(p, g)?;
     if p.at(T![:]) && !p.at(T![::]) {
@@ -285,8 +284,8 @@ fn closure_param<G: Grammar>(p: &mut Parser<'_>, g: &G) -> Result<(), NoMemory>
 /// What stands after a parameter's pattern: `: a` or `: ...`.
 #[tactic(auto, using(rap_grammar_facts::proofs::Alone::alone_less_left), unfolding(rap_grammar_scripts::specs::Params::param_type))]
 fn param_type<G: Grammar>(p: &mut Parser<'_>, g: &G) -> Result<(), NoMemory>
-    requires behind { Behind G.valid G.left g.now (state p.old) }
-    ensures script { OnOk result (Does (G.left g.now) script.param_type something (state p.old) (state p.new)) }
+    requires behind { Behind G.valid G.left g.now p.old }
+    ensures script { OnOk result (Executes (G.left g.now) script.param_type p.old p.new) }
 {
     if variadic_param(p)? {
         return Ok(());
@@ -316,7 +315,7 @@ fn variadic_param(p: &mut Parser<'_>) -> Result<bool, NoMemory>
 /// A parameter that is a `self`, as `mut self: a` and `&'a mut self`, if one comes next. Returns whether it did.
 #[tactic(auto, unfolding(rap_grammar_scripts::specs::Params::opt_self_param))]
 fn opt_self_param<G: Grammar>(p: &mut Parser<'_>, g: &G) -> Result<bool, NoMemory>
-    requires behind { Behind G.valid G.left g.now (state p.old) }
+    requires behind { Behind G.valid G.left g.now p.old }
     ensures script { IfOk result
         (λ found. Does (G.left g.now) script.opt_self_param (of_bool found) (state p.old) (state p.new)) }
 {
@@ -365,9 +364,9 @@ fn past(p: &Parser<'_>, kind: SyntaxKind, n: usize) -> usize
 /// `self` or `mut self`, and its type.
 #[tactic(auto, using(rap_grammar_facts::proofs::Alone::alone_less_left), unfolding(rap_grammar_scripts::specs::Params::self_value))]
 fn self_value<G: Grammar>(p: &mut Parser<'_>, g: &G) -> Result<(), NoMemory>
-    requires within { Within G.valid G.left g.now (state p.old) }
+    requires within { Within G.valid G.left g.now p.old }
     requires here { holds script.is_self_value (state p.old).rest ≡ true }
-    ensures script { OnOk result (Does (G.left g.now) script.self_value something (state p.old) (state p.new)) }
+    ensures script { OnOk result (Executes (G.left g.now) script.self_value p.old p.new) }
 {
     p.eat(T![mut])?;
     self_as_name(p)?;
@@ -381,7 +380,7 @@ fn self_value<G: Grammar>(p: &mut Parser<'_>, g: &G) -> Result<(), NoMemory>
 #[tactic(auto, unfolding(rap_grammar_scripts::specs::Params::self_ref, rap_grammar_scripts::specs::Params::self_mut))]
 fn self_ref(p: &mut Parser<'_>) -> Result<(), NoMemory>
     requires here { holds script.is_self_ref (state p.old).rest ≡ true }
-    ensures script { OnOk result (DoesAlone script.self_ref something (state p.old) (state p.new)) }
+    ensures script { OnOk result (ExecutesAlone script.self_ref p.old p.new) }
 {
     p.bump(T![&])?;
     if p.at(T![lifetime_ident]) {
@@ -399,7 +398,7 @@ fn self_ref(p: &mut Parser<'_>) -> Result<(), NoMemory>
 #[tactic(auto, unfolding(rap_grammar_scripts::specs::Params::self_as_name))]
 fn self_as_name(p: &mut Parser<'_>) -> Result<(), NoMemory>
     requires { next (state p.old) ≡ SELF_KW }
-    ensures script { OnOk result (DoesAlone script.self_as_name something (state p.old) (state p.new)) }
+    ensures script { OnOk result (ExecutesAlone script.self_as_name p.old p.new) }
 {
     let m = p.start()?;
     p.bump(T![self])?;

@@ -5,9 +5,8 @@ ghost use Rattle.rap_events.specs.State.{state, next};
 ghost use Rattle.rap_events.specs.Composite.{is_at};
 ghost use Rattle.rap_grammar_scripts.specs.First.{is_generic_arg_first, starts_expr_args};
 ghost use Rattle.rap_grammar_frame.specs.Grew.{Within, Grew};
-ghost use Rattle.rap_grammar_scripts.specs.Exec.{Does};
+ghost use Rattle.rap_grammar_scripts.specs.Exec.{Executes};
 ghost use Rattle.rap_grammar_scripts.specs.GenericArgList as script;
-ghost use Rattle.rap_grammar_scripts.specs.Script.{something};
 ghost use Rattle.rap_grammar_scripts.specs.Test.{holds};
 
 use rap_base::T;
@@ -52,11 +51,10 @@ pub(crate) fn generic_arg_list<G: Grammar>(
     g: &G,
     m: Marker,
 ) -> Result<(), NoMemory>
-    requires within { Within G.valid G.left g.now (state p.old) }
+    requires within { Within G.valid G.left g.now p.old }
     requires newest { (state p.old).marker ≡ Some m.pos.value }
     requires here { next (state p.old) ≡ L_ANGLE }
-    ensures script { OnOk result
-        (Does (G.left g.now) script.generic_arg_list something (state p.old) (state p.new)) }
+    ensures script { OnOk result (Executes (G.left g.now) script.generic_arg_list p.old p.new) }
 {
     delimited(
         p,
@@ -83,11 +81,10 @@ fn starts_expr_args(p: &Parser<'_>) -> bool
 #[inline(always)]
 #[tactic(auto, using(rap_grammar_facts::proofs::GenericArgList::ended_generic_arg_list), unfolding(rap_grammar_scripts::specs::GenericArgList::opt_generic_arg_list_expr))]
 pub fn opt_generic_arg_list_expr<G: Grammar>(p: &mut Parser<'_>, g: &G) -> Result<(), NoMemory>
-    requires within { Within G.valid G.left g.now (state p.old) }
+    requires within { Within G.valid G.left g.now p.old }
     ensures grew { OnOk result (Grew (state p.old) (state p.new) 0) }
     ensures stays { OnOk result (is_at COLON2 (state p.old).rest ≡ false → state p.new ≡ state p.old) }
-    ensures script { OnOk result
-        (Does (G.left g.now) script.opt_generic_arg_list_expr something (state p.old) (state p.new)) }
+    ensures script { OnOk result (Executes (G.left g.now) script.opt_generic_arg_list_expr p.old p.new) }
 {
     if !starts_expr_args(p) {
         return Ok(());

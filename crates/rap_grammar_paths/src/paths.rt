@@ -7,11 +7,10 @@ ghost use Rattle.rap_events.specs.State.{state, IsLast, next};
 ghost use Rattle.rap_events.specs.Composite.{is_at};
 ghost use Rattle.rap_grammar_scripts.specs.First.{is_path_start};
 ghost use Rattle.rap_grammar_frame.specs.Grew.{Within, Grew, Behind};
-ghost use Rattle.rap_grammar_scripts.specs.Exec.{Does};
-ghost use Rattle.rap_grammar_facts.specs.Alone.{DoesAlone};
+ghost use Rattle.rap_grammar_scripts.specs.Exec.{Does, Executes};
+ghost use Rattle.rap_grammar_facts.specs.Alone.{DoesAlone, ExecutesAlone};
 ghost use Rattle.rap_grammar_scripts.specs.Paths as script;
 ghost use Rattle.rap_grammar_scripts.specs.Recovery.{is_segment_recovery};
-ghost use Rattle.rap_grammar_scripts.specs.Script.{something};
 ghost use Rattle.rap_grammar_scripts.specs.Test.{holds};
 ghost use Rattle.rap_grammar_scripts.specs.Words.{of_option};
 
@@ -34,8 +33,8 @@ use rap_grammar_scripts::rule::Rule;
 #[inline(never)]
 #[tactic(auto, unfolding(rap_grammar_scripts::specs::Paths::use_path))]
 pub fn use_path<G: Grammar>(p: &mut Parser<'_>, g: &G) -> Result<(), NoMemory>
-    requires within { Within G.valid G.left g.now (state p.old) }
-    ensures script { OnOk result (Does (G.left g.now) script.use_path something (state p.old) (state p.new)) }
+    requires within { Within G.valid G.left g.now p.old }
+    ensures script { OnOk result (Executes (G.left g.now) script.use_path p.old p.new) }
 {
     path(p, g, Mode::Use)?;
     Ok(())
@@ -45,8 +44,8 @@ pub fn use_path<G: Grammar>(p: &mut Parser<'_>, g: &G) -> Result<(), NoMemory>
 #[inline(never)]
 #[tactic(auto, unfolding(rap_grammar_scripts::specs::Paths::vis_path))]
 pub fn vis_path<G: Grammar>(p: &mut Parser<'_>, g: &G) -> Result<(), NoMemory>
-    requires within { Within G.valid G.left g.now (state p.old) }
-    ensures script { OnOk result (Does (G.left g.now) script.vis_path something (state p.old) (state p.new)) }
+    requires within { Within G.valid G.left g.now p.old }
+    ensures script { OnOk result (Executes (G.left g.now) script.vis_path p.old p.new) }
 {
     path(p, g, Mode::Vis)?;
     Ok(())
@@ -56,8 +55,8 @@ pub fn vis_path<G: Grammar>(p: &mut Parser<'_>, g: &G) -> Result<(), NoMemory>
 #[inline(never)]
 #[tactic(auto, unfolding(rap_grammar_scripts::specs::Paths::attr_path))]
 pub fn attr_path<G: Grammar>(p: &mut Parser<'_>, g: &G) -> Result<(), NoMemory>
-    requires within { Within G.valid G.left g.now (state p.old) }
-    ensures script { OnOk result (Does (G.left g.now) script.attr_path something (state p.old) (state p.new)) }
+    requires within { Within G.valid G.left g.now p.old }
+    ensures script { OnOk result (Executes (G.left g.now) script.attr_path p.old p.new) }
 {
     path(p, g, Mode::Attr)?;
     Ok(())
@@ -67,9 +66,9 @@ pub fn attr_path<G: Grammar>(p: &mut Parser<'_>, g: &G) -> Result<(), NoMemory>
 #[inline(never)]
 #[tactic(auto, unfolding(rap_grammar_scripts::specs::Paths::type_path))]
 pub fn type_path<G: Grammar>(p: &mut Parser<'_>, g: &G) -> Result<(), NoMemory>
-    requires within { Within G.valid G.left g.now (state p.old) }
+    requires within { Within G.valid G.left g.now p.old }
     requires path { holds is_path_start (state p.old).rest ≡ true }
-    ensures script { OnOk result (Does (G.left g.now) script.type_path something (state p.old) (state p.new)) }
+    ensures script { OnOk result (Executes (G.left g.now) script.type_path p.old p.new) }
 {
     path(p, g, Mode::Type)?;
     Ok(())
@@ -79,9 +78,9 @@ pub fn type_path<G: Grammar>(p: &mut Parser<'_>, g: &G) -> Result<(), NoMemory>
 #[inline(never)]
 #[tactic(auto, using(rap_grammar_facts::proofs::Paths::grew_path), unfolding(rap_grammar_scripts::specs::Paths::type_path))]
 pub fn sym_path<G: Grammar>(p: &mut Parser<'_>, g: &G) -> Result<(), NoMemory>
-    requires within { Within G.valid G.left g.now (state p.old) }
+    requires within { Within G.valid G.left g.now p.old }
     ensures grew { OnOk result (Grew (state p.old) (state p.new) 8) }
-    ensures script { OnOk result (Does (G.left g.now) script.type_path something (state p.old) (state p.new)) }
+    ensures script { OnOk result (Executes (G.left g.now) script.type_path p.old p.new) }
 {
     path(p, g, Mode::Type)?;
     Ok(())
@@ -91,9 +90,9 @@ pub fn sym_path<G: Grammar>(p: &mut Parser<'_>, g: &G) -> Result<(), NoMemory>
 #[inline(always)]
 #[tactic(auto, unfolding(rap_grammar_scripts::specs::Paths::expr_path))]
 pub fn expr_path<G: Grammar>(p: &mut Parser<'_>, g: &G) -> Result<(), NoMemory>
-    requires within { Within G.valid G.left g.now (state p.old) }
+    requires within { Within G.valid G.left g.now p.old }
     requires path { holds is_path_start (state p.old).rest ≡ true }
-    ensures script { OnOk result (Does (G.left g.now) script.expr_path something (state p.old) (state p.new)) }
+    ensures script { OnOk result (Executes (G.left g.now) script.expr_path p.old p.new) }
 {
     path(p, g, Mode::Expr)?;
     Ok(())
@@ -107,12 +106,11 @@ pub fn type_path_for_qualifier<G: Grammar>(
     g: &G,
     qual: CompletedMarker,
 ) -> Result<CompletedMarker, NoMemory>
-    requires within { Within G.valid G.left g.now (state p.old) }
+    requires within { Within G.valid G.left g.now p.old }
     requires last { IsLast (state p.old) qual PATH }
     ensures grew { OnOk result (Grew (state p.old) (state p.new) 0) }
     ensures last { IfOk result (λ cm. IsLast (state p.new) cm PATH) }
-    ensures script { OnOk result
-        (Does (G.left g.now) script.type_path_for_qualifier something (state p.old) (state p.new)) }
+    ensures script { OnOk result (Executes (G.left g.now) script.type_path_for_qualifier p.old p.new) }
 {
     let path = path_for_qualifier(p, g, Mode::Type, qual)?;
     Ok(path)
@@ -126,7 +124,7 @@ fn path<G: Grammar>(
     g: &G,
     mode: Mode,
 ) -> Result<Option<CompletedMarker>, NoMemory>
-    requires within { Within G.valid G.left g.now (state p.old) }
+    requires within { Within G.valid G.left g.now p.old }
     ensures script { IfOk result
         (λ o. Does (G.left g.now) (script.path mode) (of_option o) (state p.old) (state p.new)) }
 {
@@ -161,11 +159,10 @@ fn path_for_qualifier<G: Grammar>(
     mode: Mode,
     mut qual: CompletedMarker,
 ) -> Result<CompletedMarker, NoMemory>
-    requires within { Within G.valid G.left g.now (state p.old) }
+    requires within { Within G.valid G.left g.now p.old }
     requires last { IsLast (state p.old) qual PATH }
     ensures last { IfOk result (λ cm. IsLast (state p.new) cm PATH) }
-    ensures script { OnOk result
-        (Does (G.left g.now) (script.path_for_qualifier mode) something (state p.old) (state p.new)) }
+    ensures script { OnOk result (Executes (G.left g.now) (script.path_for_qualifier mode) p.old p.new) }
 {
     'segments: while has_segment(p, mode) {
         let path = qual.precede(p)?;
@@ -186,7 +183,7 @@ fn path_segment<G: Grammar>(
     mode: Mode,
     first: bool,
 ) -> Result<Option<CompletedMarker>, NoMemory>
-    requires within { Within G.valid G.left g.now (state p.old) }
+    requires within { Within G.valid G.left g.now p.old }
     ensures script { IfOk result
         (λ o. Does (G.left g.now) (script.path_segment mode first) (of_option o) (state p.old) (state p.new)) }
 {
@@ -212,9 +209,9 @@ fn path_segment<G: Grammar>(
 #[inline(always)]
 #[tactic(auto, using(rap_grammar_frame::proofs::Done::marker_kept, rap_grammar_facts::proofs::Paths::level_anchor_trait), unfolding(rap_grammar_scripts::specs::Paths::type_anchor))]
 fn type_anchor<G: Grammar>(p: &mut Parser<'_>, g: &G) -> Result<(), NoMemory>
-    requires within { Within G.valid G.left g.now (state p.old) }
+    requires within { Within G.valid G.left g.now p.old }
     requires here { next (state p.old) ≡ L_ANGLE }
-    ensures script { OnOk result (Does (G.left g.now) script.type_anchor something (state p.old) (state p.new)) }
+    ensures script { OnOk result (Executes (G.left g.now) script.type_anchor p.old p.new) }
 {
     let m = p.start()?;
     p.bump(T![<])?;
@@ -231,8 +228,8 @@ fn type_anchor<G: Grammar>(p: &mut Parser<'_>, g: &G) -> Result<(), NoMemory>
 /// The trait of a type anchor, as the `as b` of `<a as b>::c`, if it has one.
 #[tactic(auto, unfolding(rap_grammar_scripts::specs::Paths::anchor_trait, rap_grammar_scripts::specs::ThroughKnot::path_type_bounds))]
 fn anchor_trait<G: Grammar>(p: &mut Parser<'_>, g: &G) -> Result<(), NoMemory>
-    requires behind { Behind G.valid G.left g.now (state p.old) }
-    ensures script { OnOk result (Does (G.left g.now) script.anchor_trait something (state p.old) (state p.new)) }
+    requires behind { Behind G.valid G.left g.now p.old }
+    ensures script { OnOk result (Executes (G.left g.now) script.anchor_trait p.old p.new) }
 {
     if !p.eat(T![as])? {
         return Ok(());
@@ -256,7 +253,7 @@ fn segment_name<G: Grammar>(
     mode: Mode,
     empty: bool,
 ) -> Result<Option<CompletedMarker>, NoMemory>
-    requires within { Within G.valid G.left g.now (state p.old) }
+    requires within { Within G.valid G.left g.now p.old }
     requires newest { (state p.old).marker ≡ Some m.pos.value }
     ensures script { IfOk result
         (λ o. Does (G.left g.now) (script.segment_name mode empty) (of_option o) (state p.old) (state p.new)) }
@@ -314,9 +311,8 @@ fn segment_recovery_set(mode: Mode) -> TokenSet
 #[inline(always)]
 #[tactic(auto, unfolding(rap_grammar_scripts::specs::Paths::opt_path_args))]
 fn opt_path_args<G: Grammar>(p: &mut Parser<'_>, g: &G, mode: Mode) -> Result<(), NoMemory>
-    requires within { Within G.valid G.left g.now (state p.old) }
-    ensures script { OnOk result
-        (Does (G.left g.now) (script.opt_path_args mode) something (state p.old) (state p.new)) }
+    requires within { Within G.valid G.left g.now p.old }
+    ensures script { OnOk result (Executes (G.left g.now) (script.opt_path_args mode) p.old p.new) }
 {
     match mode {
         Mode::Use | Mode::Attr | Mode::Vis => Ok(()),
@@ -349,10 +345,9 @@ fn has_args(p: &Parser<'_>) -> bool
 #[inline(always)]
 #[tactic(auto, using(rap_grammar_facts::proofs::Paths::ended_path_type_args), unfolding(rap_grammar_scripts::specs::Paths::opt_path_type_args))]
 pub fn opt_path_type_args<G: Grammar>(p: &mut Parser<'_>, g: &G) -> Result<(), NoMemory>
-    requires within { Within G.valid G.left g.now (state p.old) }
+    requires within { Within G.valid G.left g.now p.old }
     ensures grew { OnOk result (Grew (state p.old) (state p.new) 0) }
-    ensures script { OnOk result
-        (Does (G.left g.now) script.opt_path_type_args something (state p.old) (state p.new)) }
+    ensures script { OnOk result (Executes (G.left g.now) script.opt_path_type_args p.old p.new) }
 {
     if has_args_behind(p) {
         let m = p.start()?;
@@ -371,11 +366,10 @@ pub fn opt_path_type_args<G: Grammar>(p: &mut Parser<'_>, g: &G) -> Result<(), N
 #[inline(never)]
 #[tactic(auto, unfolding(rap_grammar_scripts::specs::Paths::path_type_args))]
 fn path_type_args<G: Grammar>(p: &mut Parser<'_>, g: &G, m: Marker) -> Result<(), NoMemory>
-    requires within { Within G.valid G.left g.now (state p.old) }
+    requires within { Within G.valid G.left g.now p.old }
     requires newest { (state p.old).marker ≡ Some m.pos.value }
     requires here { (next (state p.old) ≡ L_PAREN) ⊎ (next (state p.old) ≡ L_ANGLE) }
-    ensures script { OnOk result
-        (Does (G.left g.now) script.path_type_args something (state p.old) (state p.new)) }
+    ensures script { OnOk result (Executes (G.left g.now) script.path_type_args p.old p.new) }
 {
     if p.current() == T![<] {
         generic_arg_list(p, g, m)?;
@@ -395,7 +389,7 @@ fn return_type_syntax(p: &mut Parser<'_>, m: Marker) -> Result<(), NoMemory>
     requires newest { (state p.old).marker ≡ Some m.pos.value }
     requires here { next (state p.old) ≡ L_PAREN }
     requires dots { is_at DOT2 (drop 1 (state p.old).rest) ≡ true }
-    ensures script { OnOk result (DoesAlone script.return_type_syntax something (state p.old) (state p.new)) }
+    ensures script { OnOk result (ExecutesAlone script.return_type_syntax p.old p.new) }
 {
     p.bump(T!['('])?;
     p.bump(T![..])?;
@@ -407,11 +401,10 @@ fn return_type_syntax(p: &mut Parser<'_>, m: Marker) -> Result<(), NoMemory>
 /// The types of a function's parameters and its return type, as `(a, b) -> c` after `Fn`. The marker is open.
 #[tactic(auto, unfolding(rap_grammar_scripts::specs::Paths::parenthesized_args))]
 fn parenthesized_args<G: Grammar>(p: &mut Parser<'_>, g: &G, m: Marker) -> Result<(), NoMemory>
-    requires within { Within G.valid G.left g.now (state p.old) }
+    requires within { Within G.valid G.left g.now p.old }
     requires newest { (state p.old).marker ≡ Some m.pos.value }
     requires here { next (state p.old) ≡ L_PAREN }
-    ensures script { OnOk result
-        (Does (G.left g.now) script.parenthesized_args something (state p.old) (state p.new)) }
+    ensures script { OnOk result (Executes (G.left g.now) script.parenthesized_args p.old p.new) }
 {
     delimited(p, g, T!['('], T![')'], T![,], "expected type", &TypeArg)?;
     m.complete(p, SyntaxKind::PARENTHESIZED_ARG_LIST)?;

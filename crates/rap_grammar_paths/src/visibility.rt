@@ -5,9 +5,8 @@ ghost use Rattle.rap_base.specs.TokenKind.{PUB_KW, L_PAREN, IN_KW};
 ghost use Rattle.rap_events.specs.State.{state, next, At, NthAt};
 ghost use Rattle.rap_grammar_scripts.specs.Visibility as script;
 ghost use Rattle.rap_grammar_frame.specs.Grew.{Within, Behind, Took, Grew};
-ghost use Rattle.rap_grammar_scripts.specs.Exec.{Does};
+ghost use Rattle.rap_grammar_scripts.specs.Exec.{Does, Executes};
 ghost use Rattle.rap_grammar_frame.specs.Room.{list_room};
-ghost use Rattle.rap_grammar_scripts.specs.Script.{something};
 ghost use Rattle.rap_grammar_scripts.specs.Test.{holds};
 ghost use Rattle.rap_grammar_scripts.specs.Words.{of_bool};
 
@@ -26,7 +25,7 @@ pub fn opt_visibility<G: Grammar>(
     g: &G,
     in_tuple_field: bool,
 ) -> Result<bool, NoMemory>
-    requires within { Within G.valid G.left g.now (state p.old) }
+    requires within { Within G.valid G.left g.now p.old }
     ensures took { IfOk result (λ found. found ≡ true → Took (state p.old) (state p.new) list_room) }
     ensures stays { IfOk result (λ found. found ≡ false → state p.new ≡ state p.old) }
     ensures script { IfOk result
@@ -74,7 +73,7 @@ pub fn opt_visibility_inner<G: Grammar>(
     g: &G,
     in_tuple_field: bool,
 ) -> Result<bool, NoMemory>
-    requires within { Within G.valid G.left g.now (state p.old) }
+    requires within { Within G.valid G.left g.now p.old }
     ensures took { IfOk result (λ found. found ≡ true → Took (state p.old) (state p.new) list_room) }
     ensures stays { IfOk result (λ found. found ≡ false → state p.new ≡ state p.old) }
     ensures script { IfOk result
@@ -95,9 +94,9 @@ pub fn opt_visibility_inner<G: Grammar>(
 /// A restriction to a module, as `(crate)`.
 #[tactic(auto, using(rap_grammar_frame::proofs::Done::marker_kept, rap_grammar_facts::proofs::Paths::level_vis_path), unfolding(rap_grammar_scripts::specs::Visibility::restriction))]
 fn restriction<G: Grammar>(p: &mut Parser<'_>, g: &G) -> Result<(), NoMemory>
-    requires within { Within G.valid G.left g.now (state p.old) }
+    requires within { Within G.valid G.left g.now p.old }
     requires here { next (state p.old) ≡ L_PAREN }
-    ensures script { OnOk result (Does (G.left g.now) script.restriction something (state p.old) (state p.new)) }
+    ensures script { OnOk result (Executes (G.left g.now) script.restriction p.old p.new) }
 {
     let m = p.start()?;
     p.bump(T!['('])?;
@@ -110,10 +109,10 @@ fn restriction<G: Grammar>(p: &mut Parser<'_>, g: &G) -> Result<(), NoMemory>
 /// A restriction with `in`, as `(in a::b)`.
 #[tactic(auto, using(rap_grammar_frame::proofs::Done::marker_kept, rap_grammar_facts::proofs::Paths::level_vis_path), unfolding(rap_grammar_scripts::specs::Visibility::in_restriction))]
 fn in_restriction<G: Grammar>(p: &mut Parser<'_>, g: &G) -> Result<(), NoMemory>
-    requires within { Within G.valid G.left g.now (state p.old) }
+    requires within { Within G.valid G.left g.now p.old }
     requires here { next (state p.old) ≡ L_PAREN }
     requires more { NthAt (state p.old) 1 IN_KW }
-    ensures script { OnOk result (Does (G.left g.now) script.in_restriction something (state p.old) (state p.new)) }
+    ensures script { OnOk result (Executes (G.left g.now) script.in_restriction p.old p.new) }
 {
     let m = p.start()?;
     p.bump(T!['('])?;

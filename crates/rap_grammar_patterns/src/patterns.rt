@@ -5,12 +5,12 @@ ghost use Rattle.rap_base.specs.TokenKind.{DOT2EQ, DOT2, EOF, AMP, POUND, BUILTI
 ghost use Rattle.rap_events.specs.State.{state, At, IsLast, next, NthAt, ReadsAs};
 ghost use Rattle.rap_grammar_scripts.specs.First.{is_range_pat_end_first, is_path_start, is_pat_top_first, one_of};
 ghost use Rattle.rap_grammar_frame.specs.Grew.{Within, Behind};
-ghost use Rattle.rap_grammar_scripts.specs.Exec.{Does};
-ghost use Rattle.rap_grammar_facts.specs.Alone.{DoesAlone};
+ghost use Rattle.rap_grammar_scripts.specs.Exec.{Does, Executes};
+ghost use Rattle.rap_grammar_facts.specs.Alone.{DoesAlone, ExecutesAlone};
 ghost use Rattle.rap_grammar_scripts.specs.Patterns as script;
 ghost use Rattle.rap_grammar_scripts.specs.Patterns.{ends_range_pat, is_ident_pat_start, is_literal_pat_start, at_field, is_rest_pat, ends_search};
 ghost use Rattle.rap_grammar_scripts.specs.Recovery.{is_pattern_recovery};
-ghost use Rattle.rap_grammar_scripts.specs.Script.{something, nothing, again};
+ghost use Rattle.rap_grammar_scripts.specs.Script.{nothing, again};
 ghost use Rattle.rap_grammar_scripts.specs.Test.{holds};
 ghost use Rattle.rap_grammar_scripts.specs.Words.{of_option, of_bool};
 
@@ -68,8 +68,8 @@ fn recovery_set(in_arm: bool) -> TokenSet
 /// A pattern with its alternatives, as `a`, `1 | 2` and `| 1 | 2`.
 #[tactic(auto, using(rap_grammar_facts::proofs::Patterns::fewer_pattern_single_r, rap_grammar_facts::proofs::Patterns::marker_pattern_single_r, rap_grammar_facts::proofs::Patterns::marker_alternatives), unfolding(rap_grammar_scripts::specs::Patterns::pattern_r))]
 pub fn pattern_r<G: Grammar>(p: &mut Parser<'_>, g: &G, in_arm: bool) -> Result<(), NoMemory>
-    requires within { Within G.valid G.left g.now (state p.old) }
-    ensures script { OnOk result (Does (G.left g.now) (script.pattern_r in_arm) something (state p.old) (state p.new)) }
+    requires within { Within G.valid G.left g.now p.old }
+    ensures script { OnOk result (Executes (G.left g.now) (script.pattern_r in_arm) p.old p.new) }
 {
     let m = p.start()?;
     if p.eat(T![|])? {
@@ -91,9 +91,8 @@ pub fn pattern_r<G: Grammar>(p: &mut Parser<'_>, g: &G, in_arm: bool) -> Result<
 /// The alternatives after a first one, as the `| 2 | 3` of `1 | 2 | 3`.
 #[tactic(auto, using(rap_grammar_frame::proofs::Done::less_left, rap_grammar_frame::proofs::Loops::turns), unfolding(rap_grammar_scripts::specs::Patterns::alternatives))]
 fn alternatives<G: Grammar>(p: &mut Parser<'_>, g: &G, in_arm: bool) -> Result<(), NoMemory>
-    requires within { Within G.valid G.left g.now (state p.old) }
-    ensures script { OnOk result
-        (Does (G.left g.now) (script.alternatives in_arm) something (state p.old) (state p.new)) }
+    requires within { Within G.valid G.left g.now p.old }
+    ensures script { OnOk result (Executes (G.left g.now) (script.alternatives in_arm) p.old p.new) }
 {
     'alternatives: while p.at(T![|]) {
         p.bump(T![|])?;
@@ -106,8 +105,8 @@ fn alternatives<G: Grammar>(p: &mut Parser<'_>, g: &G, in_arm: bool) -> Result<(
 // A call of its own, so that a caller that runs other rules too keeps no constant over their calls.
 #[inline(never)]
 pub fn pattern_elsewhere<G: Grammar>(p: &mut Parser<'_>, g: &G) -> Result<(), NoMemory>
-    requires within { Within G.valid G.left g.now (state p.old) }
-    ensures script { OnOk result (Does (G.left g.now) (script.pattern_r false) something (state p.old) (state p.new)) }
+    requires within { Within G.valid G.left g.now p.old }
+    ensures script { OnOk result (Executes (G.left g.now) (script.pattern_r false) p.old p.new) }
 {
     pattern_r(p, g, false)
 }
@@ -116,9 +115,8 @@ pub fn pattern_elsewhere<G: Grammar>(p: &mut Parser<'_>, g: &G) -> Result<(), No
 #[inline(always)]
 #[tactic(auto, using(rap_grammar_frame::proofs::Done::less_left), unfolding(rap_grammar_scripts::specs::Patterns::pattern_single_r))]
 pub fn pattern_single_r<G: Grammar>(p: &mut Parser<'_>, g: &G, in_arm: bool) -> Result<(), NoMemory>
-    requires within { Within G.valid G.left g.now (state p.old) }
-    ensures script { OnOk result
-        (Does (G.left g.now) (script.pattern_single_r in_arm) something (state p.old) (state p.new)) }
+    requires within { Within G.valid G.left g.now p.old }
+    ensures script { OnOk result (Executes (G.left g.now) (script.pattern_single_r in_arm) p.old p.new) }
 {
     if p.at(T![..=]) {
         range_to_pat(p, g, in_arm)?;
@@ -139,8 +137,8 @@ pub fn pattern_single_r<G: Grammar>(p: &mut Parser<'_>, g: &G, in_arm: bool) -> 
 // A call of its own, as [`pattern_elsewhere`] is.
 #[inline(never)]
 pub fn pattern_single_elsewhere<G: Grammar>(p: &mut Parser<'_>, g: &G) -> Result<(), NoMemory>
-    requires within { Within G.valid G.left g.now (state p.old) }
-    ensures script { OnOk result (Does (G.left g.now) (script.pattern_single_r false) something (state p.old) (state p.new)) }
+    requires within { Within G.valid G.left g.now p.old }
+    ensures script { OnOk result (Executes (G.left g.now) (script.pattern_single_r false) p.old p.new) }
 {
     pattern_single_r(p, g, false)
 }
@@ -148,10 +146,9 @@ pub fn pattern_single_elsewhere<G: Grammar>(p: &mut Parser<'_>, g: &G) -> Result
 /// A range without a start, as `..=9`.
 #[tactic(auto, using(rap_grammar_frame::proofs::Done::marker_kept, rap_grammar_facts::proofs::Patterns::level_atom_pat), unfolding(rap_grammar_scripts::specs::Patterns::range_to_pat))]
 fn range_to_pat<G: Grammar>(p: &mut Parser<'_>, g: &G, in_arm: bool) -> Result<(), NoMemory>
-    requires within { Within G.valid G.left g.now (state p.old) }
+    requires within { Within G.valid G.left g.now p.old }
     requires here { At (state p.old) DOT2EQ }
-    ensures script { OnOk result
-        (Does (G.left g.now) (script.range_to_pat in_arm) something (state p.old) (state p.new)) }
+    ensures script { OnOk result (Executes (G.left g.now) (script.range_to_pat in_arm) p.old p.new) }
 {
     let m = p.start()?;
     p.bump(T![..=])?;
@@ -163,9 +160,9 @@ fn range_to_pat<G: Grammar>(p: &mut Parser<'_>, g: &G, in_arm: bool) -> Result<(
 /// The rest of a list, as the `..` of `[a, ..]`, and a range without a start, as `..9`.
 #[tactic(auto, using(rap_grammar_frame::proofs::Done::marker_kept, rap_grammar_facts::proofs::Patterns::level_atom_pat), unfolding(rap_grammar_scripts::specs::Patterns::rest_pat))]
 fn rest_pat<G: Grammar>(p: &mut Parser<'_>, g: &G, in_arm: bool) -> Result<(), NoMemory>
-    requires within { Within G.valid G.left g.now (state p.old) }
+    requires within { Within G.valid G.left g.now p.old }
     requires here { At (state p.old) DOT2 }
-    ensures script { OnOk result (Does (G.left g.now) (script.rest_pat in_arm) something (state p.old) (state p.new)) }
+    ensures script { OnOk result (Executes (G.left g.now) (script.rest_pat in_arm) p.old p.new) }
 {
     let m = p.start()?;
     p.bump(T![..])?;
@@ -186,9 +183,9 @@ fn range_op<G: Grammar>(
     lhs: CompletedMarker,
     in_arm: bool,
 ) -> Result<(), NoMemory>
-    requires within { Within G.valid G.left g.now (state p.old) }
+    requires within { Within G.valid G.left g.now p.old }
     requires last { IsLast (state p.old) lhs lhs.kind.value }
-    ensures script { OnOk result (Does (G.left g.now) (script.range_op in_arm) something (state p.old) (state p.new)) }
+    ensures script { OnOk result (Executes (G.left g.now) (script.range_op in_arm) p.old p.new) }
 {
     if p.at(T![...]) {
         range_from_pat(p, g, lhs, T![...], in_arm)?;
@@ -214,12 +211,11 @@ fn range_from_pat<G: Grammar>(
     op: SyntaxKind,
     in_arm: bool,
 ) -> Result<(), NoMemory>
-    requires within { Within G.valid G.left g.now (state p.old) }
+    requires within { Within G.valid G.left g.now p.old }
     requires last { IsLast (state p.old) lhs lhs.kind.value }
     requires here { At (state p.old) op }
     requires op { op ≢ EOF }
-    ensures script { OnOk result
-        (Does (G.left g.now) (script.range_from_pat in_arm op) something (state p.old) (state p.new)) }
+    ensures script { OnOk result (Executes (G.left g.now) (script.range_from_pat in_arm op) p.old p.new) }
 {
     let m = lhs.precede(p)?;
     p.bump(op)?;
@@ -250,7 +246,7 @@ fn atom_pat<G: Grammar>(
     g: &G,
     in_arm: bool,
 ) -> Result<Option<CompletedMarker>, NoMemory>
-    requires within { Within G.valid G.left g.now (state p.old) }
+    requires within { Within G.valid G.left g.now p.old }
     ensures last { IfOk result (λ o. IfSome o (λ cm. IsLast (state p.new) cm cm.kind.value)) }
     ensures script { IfOk result
         (λ o. Does (G.left g.now) (script.atom_pat in_arm) (of_option o) (state p.old) (state p.new)) }
@@ -286,7 +282,7 @@ fn symbol_pat<G: Grammar>(
     g: &G,
     in_arm: bool,
 ) -> Result<Option<CompletedMarker>, NoMemory>
-    requires within { Within G.valid G.left g.now (state p.old) }
+    requires within { Within G.valid G.left g.now p.old }
     ensures last { IfOk result (λ o. IfSome o (λ cm. IsLast (state p.new) cm cm.kind.value)) }
     ensures script { IfOk result
         (λ o. Does (G.left g.now) (script.symbol_pat in_arm) (of_option o) (state p.old) (state p.new)) }
@@ -320,7 +316,7 @@ fn missing_pat(p: &mut Parser<'_>, in_arm: bool) -> Result<(), NoMemory>
 /// A pattern after `builtin#`, as `builtin#deref(a)` and `builtin#cfg(unix)`. An unknown name is not taken.
 #[tactic(auto, unfolding(rap_grammar_scripts::specs::Patterns::builtin_pat))]
 fn builtin_pat<G: Grammar>(p: &mut Parser<'_>, g: &G) -> Result<Option<CompletedMarker>, NoMemory>
-    requires within { Within G.valid G.left g.now (state p.old) }
+    requires within { Within G.valid G.left g.now p.old }
     requires here { ReadsAs (state p.old) BUILTIN_KW }
     requires pound { NthAt (state p.old) 1 POUND }
     ensures last { IfOk result (λ o. IfSome o (λ cm. IsLast (state p.new) cm cm.kind.value)) }
@@ -364,7 +360,7 @@ fn is_literal_pat_start(p: &Parser<'_>) -> bool
 fn literal_pat(p: &mut Parser<'_>) -> Result<CompletedMarker, NoMemory>
     requires here { holds is_literal_pat_start (state p.old).rest ≡ true }
     ensures last { IfOk result (λ cm. IsLast (state p.new) cm cm.kind.value) }
-    ensures script { OnOk result (DoesAlone script.literal_pat something (state p.old) (state p.new)) }
+    ensures script { OnOk result (ExecutesAlone script.literal_pat p.old p.new) }
 {
     let m = p.start()?;
     p.eat(T![-])?;
@@ -377,10 +373,10 @@ fn literal_pat(p: &mut Parser<'_>) -> Result<CompletedMarker, NoMemory>
 #[inline(never)]
 #[tactic(auto, using(rap_grammar_facts::proofs::Paths::took_expr_path, rap_grammar_facts::proofs::Patterns::facts), unfolding(rap_grammar_scripts::specs::Patterns::path_or_macro_pat))]
 fn path_or_macro_pat<G: Grammar>(p: &mut Parser<'_>, g: &G) -> Result<CompletedMarker, NoMemory>
-    requires within { Within G.valid G.left g.now (state p.old) }
+    requires within { Within G.valid G.left g.now p.old }
     requires path { holds is_path_start (state p.old).rest ≡ true }
     ensures last { IfOk result (λ cm. IsLast (state p.new) cm cm.kind.value) }
-    ensures script { OnOk result (Does (G.left g.now) script.path_or_macro_pat something (state p.old) (state p.new)) }
+    ensures script { OnOk result (Executes (G.left g.now) script.path_or_macro_pat p.old p.new) }
 {
     let m = p.start()?;
     expr_path(p, g)?;
@@ -412,9 +408,9 @@ fn path_or_macro_pat<G: Grammar>(p: &mut Parser<'_>, g: &G) -> Result<CompletedM
 /// The fields of a tuple struct, as the `(a, ..)` of `S(a, ..)`.
 #[tactic(auto, using(rap_grammar_facts::proofs::Patterns::facts), unfolding(rap_grammar_scripts::specs::Patterns::tuple_pat_fields))]
 fn tuple_pat_fields<G: Grammar>(p: &mut Parser<'_>, g: &G) -> Result<(), NoMemory>
-    requires within { Within G.valid G.left g.now (state p.old) }
+    requires within { Within G.valid G.left g.now p.old }
     requires here { next (state p.old) ≡ L_PAREN }
-    ensures script { OnOk result (Does (G.left g.now) script.tuple_pat_fields something (state p.old) (state p.new)) }
+    ensures script { OnOk result (Executes (G.left g.now) script.tuple_pat_fields p.old p.new) }
 {
     p.bump(T!['('])?;
     pat_list(p, g, T![')'])?;
@@ -432,8 +428,8 @@ fn at_field(p: &Parser<'_>, separator: SyntaxKind) -> bool
 /// A field of a record, as `x: 1`, `ref x` and `box x`.
 #[tactic(auto, using(rap_grammar_frame::proofs::Patterning::separator_next, rap_grammar_frame::proofs::Steps::by_skip), unfolding(rap_grammar_scripts::specs::Patterns::record_pat_field))]
 fn record_pat_field<G: Grammar>(p: &mut Parser<'_>, g: &G) -> Result<(), NoMemory>
-    requires within { Within G.valid G.left g.now (state p.old) }
-    ensures script { OnOk result (Does (G.left g.now) script.record_pat_field something (state p.old) (state p.new)) }
+    requires within { Within G.valid G.left g.now p.old }
+    ensures script { OnOk result (Executes (G.left g.now) script.record_pat_field p.old p.new) }
 {
     if at_field(p, T![:]) {
         name_ref_or_index(p)?;
@@ -466,10 +462,9 @@ fn record_pat_field<G: Grammar>(p: &mut Parser<'_>, g: &G) -> Result<(), NoMemor
 /// The fields of a record, as the `{ x, y: 1, .. }` of `S { x, y: 1, .. }`.
 #[tactic(auto, using(rap_grammar_facts::proofs::Patterns::facts), unfolding(rap_grammar_scripts::specs::Patterns::record_pat_field_list))]
 fn record_pat_field_list<G: Grammar>(p: &mut Parser<'_>, g: &G) -> Result<(), NoMemory>
-    requires within { Within G.valid G.left g.now (state p.old) }
+    requires within { Within G.valid G.left g.now p.old }
     requires here { next (state p.old) ≡ L_CURLY }
-    ensures script { OnOk result
-        (Does (G.left g.now) script.record_pat_field_list something (state p.old) (state p.new)) }
+    ensures script { OnOk result (Executes (G.left g.now) script.record_pat_field_list p.old p.new) }
 {
     let m = p.start()?;
     p.bump(T!['{'])?;
@@ -482,8 +477,8 @@ fn record_pat_field_list<G: Grammar>(p: &mut Parser<'_>, g: &G) -> Result<(), No
 /// What stands in the braces of a record.
 #[tactic(auto, using(rap_grammar_frame::proofs::Loops::turns, rap_grammar_frame::proofs::Done::less_left), unfolding(rap_grammar_scripts::specs::Patterns::record_pat_fields))]
 fn record_pat_fields<G: Grammar>(p: &mut Parser<'_>, g: &G) -> Result<(), NoMemory>
-    requires within { Within G.valid G.left g.now (state p.old) }
-    ensures script { OnOk result (Does (G.left g.now) script.record_pat_fields something (state p.old) (state p.new)) }
+    requires within { Within G.valid G.left g.now p.old }
+    ensures script { OnOk result (Executes (G.left g.now) script.record_pat_fields p.old p.new) }
 {
     'fields: while !p.at(SyntaxKind::EOF) && !p.at(T!['}']) {
         record_pat_turn(p, g)?;
@@ -494,7 +489,7 @@ fn record_pat_fields<G: Grammar>(p: &mut Parser<'_>, g: &G) -> Result<(), NoMemo
 /// A field, and the comma after it unless it is the last.
 #[tactic(auto, using(rap_grammar_facts::proofs::Patterns::facts))]
 fn record_pat_turn<G: Grammar>(p: &mut Parser<'_>, g: &G) -> Result<(), NoMemory>
-    requires within { Within G.valid G.left g.now (state p.old) }
+    requires within { Within G.valid G.left g.now p.old }
     requires more { next (state p.old) ≢ EOF }
     requires open { next (state p.old) ≢ R_CURLY }
     ensures script { OnOk result
@@ -511,8 +506,8 @@ fn record_pat_turn<G: Grammar>(p: &mut Parser<'_>, g: &G) -> Result<(), NoMemory
 /// A field with its attributes, as `#[a] x: 1`, or the `..` that stands for the other fields.
 #[tactic(auto, using(rap_grammar_facts::proofs::Patterns::facts), unfolding(rap_grammar_scripts::specs::Patterns::record_pat_element))]
 fn record_pat_element<G: Grammar>(p: &mut Parser<'_>, g: &G) -> Result<(), NoMemory>
-    requires within { Within G.valid G.left g.now (state p.old) }
-    ensures script { OnOk result (Does (G.left g.now) script.record_pat_element something (state p.old) (state p.new)) }
+    requires within { Within G.valid G.left g.now p.old }
+    ensures script { OnOk result (Executes (G.left g.now) script.record_pat_element p.old p.new) }
 {
     let m = p.start()?;
     outer_attrs(p, g)?;
@@ -536,7 +531,7 @@ fn record_pat_element<G: Grammar>(p: &mut Parser<'_>, g: &G) -> Result<(), NoMem
 fn wildcard_pat(p: &mut Parser<'_>) -> Result<CompletedMarker, NoMemory>
     requires here { next (state p.old) ≡ UNDERSCORE }
     ensures last { IfOk result (λ cm. IsLast (state p.new) cm cm.kind.value) }
-    ensures script { OnOk result (DoesAlone script.wildcard_pat something (state p.old) (state p.new)) }
+    ensures script { OnOk result (ExecutesAlone script.wildcard_pat p.old p.new) }
 {
     let m = p.start()?;
     p.bump(T![_])?;
@@ -547,10 +542,10 @@ fn wildcard_pat(p: &mut Parser<'_>) -> Result<CompletedMarker, NoMemory>
 /// A reference, as `&a` and `&mut a`.
 #[tactic(auto, unfolding(rap_grammar_scripts::specs::Patterns::ref_pat))]
 fn ref_pat<G: Grammar>(p: &mut Parser<'_>, g: &G) -> Result<CompletedMarker, NoMemory>
-    requires within { Within G.valid G.left g.now (state p.old) }
+    requires within { Within G.valid G.left g.now p.old }
     requires here { next (state p.old) ≡ AMP }
     ensures last { IfOk result (λ cm. IsLast (state p.new) cm cm.kind.value) }
-    ensures script { OnOk result (Does (G.left g.now) script.ref_pat something (state p.old) (state p.new)) }
+    ensures script { OnOk result (Executes (G.left g.now) script.ref_pat p.old p.new) }
 {
     let m = p.start()?;
     p.bump(T![&])?;
@@ -563,10 +558,10 @@ fn ref_pat<G: Grammar>(p: &mut Parser<'_>, g: &G) -> Result<CompletedMarker, NoM
 /// A pointer that is not null, as `!a`.
 #[tactic(auto, unfolding(rap_grammar_scripts::specs::Patterns::not_null_pat))]
 fn not_null_pat<G: Grammar>(p: &mut Parser<'_>, g: &G) -> Result<CompletedMarker, NoMemory>
-    requires within { Within G.valid G.left g.now (state p.old) }
+    requires within { Within G.valid G.left g.now p.old }
     requires here { next (state p.old) ≡ BANG }
     ensures last { IfOk result (λ cm. IsLast (state p.new) cm cm.kind.value) }
-    ensures script { OnOk result (Does (G.left g.now) script.not_null_pat something (state p.old) (state p.new)) }
+    ensures script { OnOk result (Executes (G.left g.now) script.not_null_pat p.old p.new) }
 {
     let m = p.start()?;
     p.bump(T![!])?;
@@ -579,10 +574,10 @@ fn not_null_pat<G: Grammar>(p: &mut Parser<'_>, g: &G) -> Result<CompletedMarker
 #[inline(never)]
 #[tactic(auto, using(rap_grammar_facts::proofs::Alone::alone_less_left, rap_grammar_facts::proofs::Alone::alone_marker_kept, rap_grammar_facts::proofs::Patterns::level_leading_comma, rap_grammar_frame::proofs::Done::marker_kept, rap_grammar_facts::proofs::Patterns::level_tuple_patterns), unfolding(rap_grammar_scripts::specs::Patterns::tuple_pat))]
 fn tuple_pat<G: Grammar>(p: &mut Parser<'_>, g: &G) -> Result<CompletedMarker, NoMemory>
-    requires within { Within G.valid G.left g.now (state p.old) }
+    requires within { Within G.valid G.left g.now p.old }
     requires here { next (state p.old) ≡ L_PAREN }
     ensures last { IfOk result (λ cm. IsLast (state p.new) cm cm.kind.value) }
-    ensures script { OnOk result (Does (G.left g.now) script.tuple_pat something (state p.old) (state p.new)) }
+    ensures script { OnOk result (Executes (G.left g.now) script.tuple_pat p.old p.new) }
 {
     let m = p.start()?;
     p.bump(T!['('])?;
@@ -618,7 +613,7 @@ fn tuple_patterns<G: Grammar>(
     g: &G,
     mut is_tuple: bool,
 ) -> Result<bool, NoMemory>
-    requires behind { Behind G.valid G.left g.now (state p.old) }
+    requires behind { Behind G.valid G.left g.now p.old }
     ensures script { IfOk result
         (λ parens. Does (G.left g.now) (script.tuple_patterns is_tuple) (of_bool parens) (state p.old) (state p.new)) }
 {
@@ -637,7 +632,7 @@ fn tuple_patterns<G: Grammar>(
 
 /// A pattern, and the comma after it unless it is the last. Returns whether there is a comma or a `..` up to here.
 fn tuple_element<G: Grammar>(p: &mut Parser<'_>, g: &G, is_tuple: bool) -> Result<bool, NoMemory>
-    requires behind { Behind G.valid G.left g.now (state p.old) }
+    requires behind { Behind G.valid G.left g.now p.old }
     requires first { is_pat_top_first (next (state p.old)) ≡ true }
     ensures script { IfOk result (λ tuple.
         Does (G.left g.now) (script.tuple_element is_tuple) (again tuple true) (state p.old) (state p.new)) }
@@ -661,10 +656,10 @@ fn is_rest_pat(p: &Parser<'_>) -> bool
 #[inline(never)]
 #[tactic(auto, using(rap_grammar_frame::proofs::Done::marker_kept, rap_grammar_facts::proofs::Patterns::level_pat_list), unfolding(rap_grammar_scripts::specs::Patterns::slice_pat))]
 fn slice_pat<G: Grammar>(p: &mut Parser<'_>, g: &G) -> Result<CompletedMarker, NoMemory>
-    requires within { Within G.valid G.left g.now (state p.old) }
+    requires within { Within G.valid G.left g.now p.old }
     requires here { next (state p.old) ≡ L_BRACK }
     ensures last { IfOk result (λ cm. IsLast (state p.new) cm cm.kind.value) }
-    ensures script { OnOk result (Does (G.left g.now) script.slice_pat something (state p.old) (state p.new)) }
+    ensures script { OnOk result (Executes (G.left g.now) script.slice_pat p.old p.new) }
 {
     let m = p.start()?;
     p.bump(T!['['])?;
@@ -677,8 +672,8 @@ fn slice_pat<G: Grammar>(p: &mut Parser<'_>, g: &G) -> Result<CompletedMarker, N
 /// Patterns up to `ket`, as `a, b`. A comma that is missing is reported where the next pattern begins.
 #[tactic(auto, using(rap_grammar_frame::proofs::Loops::turns), unfolding(rap_grammar_scripts::specs::Patterns::pat_list))]
 fn pat_list<G: Grammar>(p: &mut Parser<'_>, g: &G, ket: SyntaxKind) -> Result<(), NoMemory>
-    requires behind { Behind G.valid G.left g.now (state p.old) }
-    ensures script { OnOk result (Does (G.left g.now) (script.pat_list ket) something (state p.old) (state p.new)) }
+    requires behind { Behind G.valid G.left g.now p.old }
+    ensures script { OnOk result (Executes (G.left g.now) (script.pat_list ket) p.old p.new) }
 {
     'patterns: while !p.at(SyntaxKind::EOF) && !p.at(ket) {
         pattern(p, g)?;
@@ -700,11 +695,10 @@ fn ident_pat<G: Grammar>(
     g: &G,
     with_at: bool,
 ) -> Result<CompletedMarker, NoMemory>
-    requires within { Within G.valid G.left g.now (state p.old) }
+    requires within { Within G.valid G.left g.now p.old }
     requires here { one_of (REF_KW ∷ MUT_KW ∷ IDENT ∷ []) (next (state p.old)) ≡ true }
     ensures last { IfOk result (λ cm. IsLast (state p.new) cm cm.kind.value) }
-    ensures script { OnOk result
-        (Does (G.left g.now) (script.ident_pat with_at) something (state p.old) (state p.new)) }
+    ensures script { OnOk result (Executes (G.left g.now) (script.ident_pat with_at) p.old p.new) }
 {
     let m = p.start()?;
     binding(p)?;
@@ -717,7 +711,7 @@ fn ident_pat<G: Grammar>(
 #[inline(never)]
 fn binding(p: &mut Parser<'_>) -> Result<(), NoMemory>
     requires here { one_of (REF_KW ∷ MUT_KW ∷ IDENT ∷ []) (next (state p.old)) ≡ true }
-    ensures script { OnOk result (DoesAlone script.binding something (state p.old) (state p.new)) }
+    ensures script { OnOk result (ExecutesAlone script.binding p.old p.new) }
 {
     p.eat(T![ref])?;
     p.eat(T![mut])?;
@@ -732,9 +726,8 @@ fn binding(p: &mut Parser<'_>) -> Result<(), NoMemory>
 /// The subpattern after a name, as the `@ 1` of `a @ 1`, if there is one and it may be there.
 #[tactic(auto, unfolding(rap_grammar_scripts::specs::Patterns::at_pattern))]
 fn at_pattern<G: Grammar>(p: &mut Parser<'_>, g: &G, with_at: bool) -> Result<(), NoMemory>
-    requires within { Within G.valid G.left g.now (state p.old) }
-    ensures script { OnOk result
-        (Does (G.left g.now) (script.at_pattern with_at) something (state p.old) (state p.new)) }
+    requires within { Within G.valid G.left g.now p.old }
+    ensures script { OnOk result (Executes (G.left g.now) (script.at_pattern with_at) p.old p.new) }
 {
     if with_at && p.at(T![@]) {
         p.bump(T![@])?;
@@ -746,10 +739,10 @@ fn at_pattern<G: Grammar>(p: &mut Parser<'_>, g: &G, with_at: bool) -> Result<()
 /// A box pattern, as `box a`.
 #[tactic(auto, unfolding(rap_grammar_scripts::specs::Patterns::box_pat))]
 fn box_pat<G: Grammar>(p: &mut Parser<'_>, g: &G) -> Result<CompletedMarker, NoMemory>
-    requires within { Within G.valid G.left g.now (state p.old) }
+    requires within { Within G.valid G.left g.now p.old }
     requires here { next (state p.old) ≡ BOX_KW }
     ensures last { IfOk result (λ cm. IsLast (state p.new) cm cm.kind.value) }
-    ensures script { OnOk result (Does (G.left g.now) script.box_pat something (state p.old) (state p.new)) }
+    ensures script { OnOk result (Executes (G.left g.now) script.box_pat p.old p.new) }
 {
     let m = p.start()?;
     p.bump(T![box])?;
@@ -761,10 +754,10 @@ fn box_pat<G: Grammar>(p: &mut Parser<'_>, g: &G) -> Result<CompletedMarker, NoM
 /// A constant block, as `const { 1 }`.
 #[tactic(auto, unfolding(rap_grammar_scripts::specs::Patterns::const_block_pat))]
 fn const_block_pat<G: Grammar>(p: &mut Parser<'_>, g: &G) -> Result<CompletedMarker, NoMemory>
-    requires within { Within G.valid G.left g.now (state p.old) }
+    requires within { Within G.valid G.left g.now p.old }
     requires here { next (state p.old) ≡ CONST_KW }
     ensures last { IfOk result (λ cm. IsLast (state p.new) cm cm.kind.value) }
-    ensures script { OnOk result (Does (G.left g.now) script.const_block_pat something (state p.old) (state p.new)) }
+    ensures script { OnOk result (Executes (G.left g.now) script.const_block_pat p.old p.new) }
 {
     let m = p.start()?;
     p.bump(T![const])?;

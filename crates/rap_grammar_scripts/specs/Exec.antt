@@ -4,7 +4,8 @@ use Rattle.rap_base.specs.TokenKind.{EOF, FLOAT_NUMBER}
 use Rattle.rap_events.specs.Record.{next_kind, joint_at}
 use Rattle.rap_events.specs.Composite.{is_at, width}
 use Rattle.rap_events.specs.Cover.{first_may_bear}
-use Rattle.rap_events.specs.State.{State, with_kind}
+use Rattle.rap_events.specs.State.{State, state, with_kind}
+use Rattle.rap_events.specs.declared.parser.Parser.{Parser}
 use Rattle.rap_grammar_scripts.specs.Test.{holds}
 use Rattle.rap_grammar_scripts.specs.Knot.{script_of}
 use Rattle.rap_grammar_scripts.specs.declared.rule.Rule.{Rule}
@@ -78,9 +79,14 @@ pub record Ends (depth : ℕ) (s : Script Rule) (p q : Stand) (v : Outcome) : Ty
 pub record Answers (depth : ℕ) (c : Rule) (p q : Stand) (v : Outcome) : Type 0 where
   pub run : run_of depth c p ≡ Some (q, v)
 
--- the parser's calls between two states do what the script does, and what the rule does
+-- the parser's calls between two states do what the script does, with this outcome
 abbrev pub Does : ℕ → Script Rule → Outcome → State → State → Type 0
 Does depth s v old new = Ends depth s (stand old) (stand new) v
 
+-- what the script does between two parsers, where it ends by `something`
+abbrev pub Executes : ℕ → Script Rule → Parser → Parser → Type 0
+Executes depth s p q = Does depth s something (state p) (state q)
+
+-- the same of the rule
 abbrev pub Obeys : ℕ → Rule → Outcome → State → State → Type 0
 Obeys depth c v old new = Answers depth c (stand old) (stand new) v

@@ -5,10 +5,9 @@ ghost use Rattle.rap_events.specs.State.{state, next, IsLast};
 ghost use Rattle.rap_grammar_scripts.specs.First.{is_const_arg_first, is_generic_arg_first, is_type_first, is_path_name};
 ghost use Rattle.rap_grammar_scripts.specs.GenericArgs as script;
 ghost use Rattle.rap_grammar_frame.specs.Grew.{Within, Behind};
-ghost use Rattle.rap_grammar_scripts.specs.Exec.{Does};
-ghost use Rattle.rap_grammar_facts.specs.Alone.{DoesAlone};
+ghost use Rattle.rap_grammar_scripts.specs.Exec.{Executes};
+ghost use Rattle.rap_grammar_facts.specs.Alone.{ExecutesAlone};
 ghost use Rattle.rap_grammar_scripts.specs.Recovery.{is_generic_arg_recovery};
-ghost use Rattle.rap_grammar_scripts.specs.Script.{something};
 ghost use Rattle.rap_grammar_scripts.specs.Test.{holds};
 
 use crate::types::{opt_type_bounds_as_dyn_trait_type, starts_weak_dyn, type_with_bounds_cond};
@@ -28,9 +27,9 @@ use rap_grammar_paths::paths::{opt_path_type_args, type_path_for_qualifier};
 /// An argument, as `'a`, `1`, `a`, `a = b` and `a: b`.
 #[tactic(auto, unfolding(rap_grammar_scripts::specs::GenericArgs::generic_arg))]
 pub fn generic_arg<G: Grammar>(p: &mut Parser<'_>, g: &G) -> Result<(), NoMemory>
-    requires within { Within G.valid G.left g.now (state p.old) }
+    requires within { Within G.valid G.left g.now p.old }
     requires first { is_generic_arg_first (next (state p.old)) ≡ true }
-    ensures script { OnOk result (Does (G.left g.now) script.generic_arg something (state p.old) (state p.new)) }
+    ensures script { OnOk result (Executes (G.left g.now) script.generic_arg p.old p.new) }
 {
     if starts_lifetime_arg(p) {
         lifetime_arg(p)?;
@@ -60,7 +59,7 @@ fn starts_lifetime_arg(p: &Parser<'_>) -> bool
 #[tactic(auto, unfolding(rap_grammar_scripts::specs::GenericArgs::lifetime_arg))]
 fn lifetime_arg(p: &mut Parser<'_>) -> Result<(), NoMemory>
     requires here { next (state p.old) ≡ LIFETIME_IDENT }
-    ensures script { OnOk result (DoesAlone script.lifetime_arg something (state p.old) (state p.new)) }
+    ensures script { OnOk result (ExecutesAlone script.lifetime_arg p.old p.new) }
 {
     let m = p.start()?;
     lifetime(p)?;
@@ -71,9 +70,9 @@ fn lifetime_arg(p: &mut Parser<'_>) -> Result<(), NoMemory>
 /// A type as an argument, as `&a`.
 #[tactic(auto, using(rap_grammar_facts::proofs::Types::marker_type_with_bounds_cond), unfolding(rap_grammar_scripts::specs::GenericArgs::type_arg))]
 fn type_arg<G: Grammar>(p: &mut Parser<'_>, g: &G) -> Result<(), NoMemory>
-    requires within { Within G.valid G.left g.now (state p.old) }
+    requires within { Within G.valid G.left g.now p.old }
     requires first { is_type_first (next (state p.old)) ≡ true }
-    ensures script { OnOk result (Does (G.left g.now) script.type_arg something (state p.old) (state p.new)) }
+    ensures script { OnOk result (Executes (G.left g.now) script.type_arg p.old p.new) }
 {
     let m = p.start()?;
     type_with_bounds_cond(p, g, true)?;
@@ -100,9 +99,9 @@ fn starts_bounds(p: &Parser<'_>) -> bool
 /// An argument that begins with a name, as `a::b<c>`, `a = b` and `a<b>: c`.
 #[tactic(auto, using(rap_grammar_frame::proofs::Done::marker_kept, rap_grammar_facts::proofs::GenericArgs::level_assoc_value), unfolding(rap_grammar_scripts::specs::GenericArgs::named_arg))]
 fn named_arg<G: Grammar>(p: &mut Parser<'_>, g: &G) -> Result<(), NoMemory>
-    requires within { Within G.valid G.left g.now (state p.old) }
+    requires within { Within G.valid G.left g.now p.old }
     requires name { is_path_name (next (state p.old)) ≡ true }
-    ensures script { OnOk result (Does (G.left g.now) script.named_arg something (state p.old) (state p.new)) }
+    ensures script { OnOk result (Executes (G.left g.now) script.named_arg p.old p.new) }
 {
     let m = p.start()?;
     name_ref_mod_path(p)?;
@@ -126,8 +125,8 @@ fn named_arg<G: Grammar>(p: &mut Parser<'_>, g: &G) -> Result<(), NoMemory>
 /// What a name is bound to after the `=`, as the `b` of `a = b`.
 #[tactic(auto, unfolding(rap_grammar_scripts::specs::GenericArgs::assoc_value))]
 fn assoc_value<G: Grammar>(p: &mut Parser<'_>, g: &G) -> Result<(), NoMemory>
-    requires behind { Behind G.valid G.left g.now (state p.old) }
-    ensures script { OnOk result (Does (G.left g.now) script.assoc_value something (state p.old) (state p.new)) }
+    requires behind { Behind G.valid G.left g.now p.old }
+    ensures script { OnOk result (Executes (G.left g.now) script.assoc_value p.old p.new) }
 {
     if is_type_first(p.current()) {
         type_(p, g)?;
@@ -151,9 +150,9 @@ fn is_generic_arg_recovery(kind: SyntaxKind) -> bool
 /// A path from its first segment on, as a type, as `a::b`, or a macro call, as `a!()`.
 #[tactic(auto, using(rap_grammar_facts::proofs::GenericArgs::facts), unfolding(rap_grammar_scripts::specs::GenericArgs::path_arg))]
 fn path_arg<G: Grammar>(p: &mut Parser<'_>, g: &G, segment: CompletedMarker) -> Result<(), NoMemory>
-    requires behind { Behind G.valid G.left g.now (state p.old) }
+    requires behind { Behind G.valid G.left g.now p.old }
     requires last { IsLast (state p.old) segment segment.kind.value }
-    ensures script { OnOk result (Does (G.left g.now) script.path_arg something (state p.old) (state p.new)) }
+    ensures script { OnOk result (Executes (G.left g.now) script.path_arg p.old p.new) }
 {
     let m = segment.precede(p)?;
     let qual = m.complete(p, SyntaxKind::PATH)?;
@@ -171,10 +170,10 @@ fn path_arg<G: Grammar>(p: &mut Parser<'_>, g: &G, segment: CompletedMarker) -> 
 /// A macro call after its path, as the `!()` of `a!()`. The marker before the path is open.
 #[tactic(auto, unfolding(rap_grammar_scripts::specs::GenericArgs::macro_arg, rap_events::specs::Machine::top))]
 fn macro_arg<G: Grammar>(p: &mut Parser<'_>, g: &G, m: Marker) -> Result<(), NoMemory>
-    requires behind { Behind G.valid G.left g.now (state p.old) }
+    requires behind { Behind G.valid G.left g.now p.old }
     requires newest { (state p.old).marker ≡ Some m.pos.value }
     requires here { next (state p.old) ≡ BANG }
-    ensures script { OnOk result (Does (G.left g.now) script.macro_arg something (state p.old) (state p.new)) }
+    ensures script { OnOk result (Executes (G.left g.now) script.macro_arg p.old p.new) }
 {
     macro_call_after_excl(p)?;
     let call = m.complete(p, SyntaxKind::MACRO_CALL)?;
@@ -192,9 +191,9 @@ fn bounded_arg<G: Grammar>(
     ty: CompletedMarker,
     kind: SyntaxKind,
 ) -> Result<(), NoMemory>
-    requires behind { Behind G.valid G.left g.now (state p.old) }
+    requires behind { Behind G.valid G.left g.now p.old }
     requires last { IsLast (state p.old) ty kind }
-    ensures script { OnOk result (Does (G.left g.now) (script.bounded_arg kind) something (state p.old) (state p.new)) }
+    ensures script { OnOk result (Executes (G.left g.now) (script.bounded_arg kind) p.old p.new) }
 {
     let ty = opt_type_bounds_as_dyn_trait_type(p, g, ty, kind)?;
     let m = ty.precede(p)?;

@@ -5,9 +5,8 @@ ghost use Rattle.rap_base.specs.NodeKind.{PATH_TYPE};
 ghost use Rattle.rap_events.specs.State.{state, next, ReadsAs, IsLast, NthAt};
 ghost use Rattle.rap_grammar_scripts.specs.First.{starts_weak_dyn, is_weak_dyn_path_first, is_dyn_weak, is_fn_ptr_first, is_path_start};
 ghost use Rattle.rap_grammar_frame.specs.Grew.{Within, Behind};
-ghost use Rattle.rap_grammar_scripts.specs.Exec.{Does};
-ghost use Rattle.rap_grammar_facts.specs.Alone.{DoesAlone};
-ghost use Rattle.rap_grammar_scripts.specs.Script.{something};
+ghost use Rattle.rap_grammar_scripts.specs.Exec.{Does, Executes};
+ghost use Rattle.rap_grammar_facts.specs.Alone.{ExecutesAlone};
 ghost use Rattle.rap_grammar_scripts.specs.Test.{holds};
 ghost use Rattle.rap_grammar_scripts.specs.Types as script;
 ghost use Rattle.rap_grammar_scripts.specs.Types.{starts_bare_dyn, starts_for_target};
@@ -37,9 +36,8 @@ pub fn type_with_bounds_cond<G: Grammar>(
     g: &G,
     allow_bounds: bool,
 ) -> Result<(), NoMemory>
-    requires within { Within G.valid G.left g.now (state p.old) }
-    ensures script { OnOk result
-        (Does (G.left g.now) (script.type_with_bounds_cond allow_bounds) something (state p.old) (state p.new)) }
+    requires within { Within G.valid G.left g.now p.old }
+    ensures script { OnOk result (Executes (G.left g.now) (script.type_with_bounds_cond allow_bounds) p.old p.new) }
 {
     match p.current() {
         T!['('] => paren_or_tuple_type(p, g),
@@ -60,9 +58,8 @@ pub fn type_with_bounds_cond<G: Grammar>(
 /// A type that begins with no symbol and no keyword of its own, as `a::b` and `'a + b`.
 #[tactic(auto, unfolding(rap_grammar_scripts::specs::Types::named_type))]
 fn named_type<G: Grammar>(p: &mut Parser<'_>, g: &G, allow_bounds: bool) -> Result<(), NoMemory>
-    requires within { Within G.valid G.left g.now (state p.old) }
-    ensures script { OnOk result
-        (Does (G.left g.now) (script.named_type allow_bounds) something (state p.old) (state p.new)) }
+    requires within { Within G.valid G.left g.now p.old }
+    ensures script { OnOk result (Executes (G.left g.now) (script.named_type allow_bounds) p.old p.new) }
 {
     if starts_weak_dyn(p) {
         dyn_trait_type_weak(p, g)?;
@@ -91,7 +88,7 @@ fn starts_bare_dyn(p: &Parser<'_>) -> bool
 #[inline(never)]
 #[tactic(auto, unfolding(rap_grammar_scripts::specs::Types::missing_type))]
 fn missing_type(p: &mut Parser<'_>) -> Result<(), NoMemory>
-    ensures script { OnOk result ((depth : ℕ) → Does depth script.missing_type something (state p.old) (state p.new)) }
+    ensures script { OnOk result ((depth : ℕ) → Executes depth script.missing_type p.old p.new) }
 {
     if p.current() == T!['{'] {
         p.error("expected type, found `{`")?;
@@ -139,10 +136,9 @@ pub(crate) fn starts_weak_dyn(p: &Parser<'_>) -> bool
 #[inline(never)]
 #[tactic(auto, using(rap_grammar_frame::proofs::Done::marker_kept, rap_grammar_facts::proofs::Types::level_tuple_types), unfolding(rap_grammar_scripts::specs::Types::paren_or_tuple_type))]
 fn paren_or_tuple_type<G: Grammar>(p: &mut Parser<'_>, g: &G) -> Result<(), NoMemory>
-    requires within { Within G.valid G.left g.now (state p.old) }
+    requires within { Within G.valid G.left g.now p.old }
     requires here { next (state p.old) ≡ L_PAREN }
-    ensures script { OnOk result
-        (Does (G.left g.now) script.paren_or_tuple_type something (state p.old) (state p.new)) }
+    ensures script { OnOk result (Executes (G.left g.now) script.paren_or_tuple_type p.old p.new) }
 {
     let m = p.start()?;
     p.bump(T!['('])?;
@@ -160,7 +156,7 @@ fn paren_or_tuple_type<G: Grammar>(p: &mut Parser<'_>, g: &G) -> Result<(), NoMe
 /// What stands in parentheses. Returns whether it is one type and no comma.
 #[tactic(auto, using(rap_grammar_facts::proofs::Types::facts, rap_grammar_frame::proofs::Loops::turns), unfolding(rap_grammar_scripts::specs::Types::tuple_types))]
 fn tuple_types<G: Grammar>(p: &mut Parser<'_>, g: &G) -> Result<bool, NoMemory>
-    requires behind { Behind G.valid G.left g.now (state p.old) }
+    requires behind { Behind G.valid G.left g.now p.old }
     ensures script { IfOk result
         (λ parens. Does (G.left g.now) script.tuple_types (of_bool parens) (state p.old) (state p.new)) }
 {
@@ -180,7 +176,7 @@ fn tuple_types<G: Grammar>(p: &mut Parser<'_>, g: &G) -> Result<bool, NoMemory>
 #[tactic(auto, unfolding(rap_grammar_scripts::specs::Types::never_type))]
 fn never_type(p: &mut Parser<'_>) -> Result<(), NoMemory>
     requires here { next (state p.old) ≡ BANG }
-    ensures script { OnOk result (DoesAlone script.never_type something (state p.old) (state p.new)) }
+    ensures script { OnOk result (ExecutesAlone script.never_type p.old p.new) }
 {
     let m = p.start()?;
     p.bump(T![!])?;
@@ -191,9 +187,9 @@ fn never_type(p: &mut Parser<'_>) -> Result<(), NoMemory>
 /// A pointer, as `*const a`.
 #[tactic(auto, using(rap_grammar_facts::proofs::Types::facts), unfolding(rap_grammar_scripts::specs::Types::ptr_type))]
 fn ptr_type<G: Grammar>(p: &mut Parser<'_>, g: &G) -> Result<(), NoMemory>
-    requires within { Within G.valid G.left g.now (state p.old) }
+    requires within { Within G.valid G.left g.now p.old }
     requires here { next (state p.old) ≡ STAR }
-    ensures script { OnOk result (Does (G.left g.now) script.ptr_type something (state p.old) (state p.new)) }
+    ensures script { OnOk result (Executes (G.left g.now) script.ptr_type p.old p.new) }
 {
     let m = p.start()?;
     p.bump(T![*])?;
@@ -207,7 +203,7 @@ fn ptr_type<G: Grammar>(p: &mut Parser<'_>, g: &G) -> Result<(), NoMemory>
 #[inline(never)]
 #[tactic(auto, unfolding(rap_grammar_scripts::specs::Types::ptr_qualifier))]
 fn ptr_qualifier(p: &mut Parser<'_>) -> Result<(), NoMemory>
-    ensures script { OnOk result (DoesAlone script.ptr_qualifier something (state p.old) (state p.new)) }
+    ensures script { OnOk result (ExecutesAlone script.ptr_qualifier p.old p.new) }
 {
     if matches!(p.current(), T![mut] | T![const]) {
         p.bump_any()?;
@@ -223,10 +219,9 @@ fn ptr_qualifier(p: &mut Parser<'_>) -> Result<(), NoMemory>
 #[inline(never)]
 #[tactic(auto, using(rap_grammar_frame::proofs::Done::marker_kept, rap_grammar_facts::proofs::Types::level_array_length), unfolding(rap_grammar_scripts::specs::Types::array_or_slice_type))]
 fn array_or_slice_type<G: Grammar>(p: &mut Parser<'_>, g: &G) -> Result<(), NoMemory>
-    requires within { Within G.valid G.left g.now (state p.old) }
+    requires within { Within G.valid G.left g.now p.old }
     requires here { next (state p.old) ≡ L_BRACK }
-    ensures script { OnOk result
-        (Does (G.left g.now) script.array_or_slice_type something (state p.old) (state p.new)) }
+    ensures script { OnOk result (Executes (G.left g.now) script.array_or_slice_type p.old p.new) }
 {
     let m = p.start()?;
     p.bump(T!['['])?;
@@ -249,9 +244,9 @@ fn array_or_slice_type<G: Grammar>(p: &mut Parser<'_>, g: &G) -> Result<(), NoMe
 /// The length of an array and its bracket, as `; 1]`.
 #[tactic(auto, unfolding(rap_grammar_scripts::specs::Types::array_length))]
 fn array_length<G: Grammar>(p: &mut Parser<'_>, g: &G) -> Result<(), NoMemory>
-    requires within { Within G.valid G.left g.now (state p.old) }
+    requires within { Within G.valid G.left g.now p.old }
     requires here { next (state p.old) ≡ SEMICOLON }
-    ensures script { OnOk result (Does (G.left g.now) script.array_length something (state p.old) (state p.new)) }
+    ensures script { OnOk result (Executes (G.left g.now) script.array_length p.old p.new) }
 {
     p.bump(T![;])?;
     let m = p.start()?;
@@ -265,9 +260,9 @@ fn array_length<G: Grammar>(p: &mut Parser<'_>, g: &G) -> Result<(), NoMemory>
 #[inline(never)]
 #[tactic(auto, unfolding(rap_grammar_scripts::specs::Types::ref_type))]
 fn ref_type<G: Grammar>(p: &mut Parser<'_>, g: &G) -> Result<(), NoMemory>
-    requires within { Within G.valid G.left g.now (state p.old) }
+    requires within { Within G.valid G.left g.now p.old }
     requires here { next (state p.old) ≡ AMP }
-    ensures script { OnOk result (Does (G.left g.now) script.ref_type something (state p.old) (state p.new)) }
+    ensures script { OnOk result (Executes (G.left g.now) script.ref_type p.old p.new) }
 {
     let m = p.start()?;
     p.bump(T![&])?;
@@ -285,7 +280,7 @@ fn ref_type<G: Grammar>(p: &mut Parser<'_>, g: &G) -> Result<(), NoMemory>
 #[tactic(auto, unfolding(rap_grammar_scripts::specs::Types::infer_type))]
 fn infer_type(p: &mut Parser<'_>) -> Result<(), NoMemory>
     requires here { next (state p.old) ≡ UNDERSCORE }
-    ensures script { OnOk result (DoesAlone script.infer_type something (state p.old) (state p.new)) }
+    ensures script { OnOk result (ExecutesAlone script.infer_type p.old p.new) }
 {
     let m = p.start()?;
     p.bump(T![_])?;
@@ -297,9 +292,9 @@ fn infer_type(p: &mut Parser<'_>) -> Result<(), NoMemory>
 #[inline(never)]
 #[tactic(auto, using(rap_grammar_frame::proofs::Done::less_left, rap_grammar_frame::proofs::Done::marker_kept, rap_grammar_facts::proofs::Alone::alone_less_left, rap_grammar_facts::proofs::Alone::alone_marker_kept, rap_grammar_facts::proofs::Types::level_fn_qualifiers, rap_grammar_facts::proofs::Types::level_fn_ptr_params), unfolding(rap_grammar_scripts::specs::Types::fn_ptr_type))]
 fn fn_ptr_type<G: Grammar>(p: &mut Parser<'_>, g: &G) -> Result<(), NoMemory>
-    requires within { Within G.valid G.left g.now (state p.old) }
+    requires within { Within G.valid G.left g.now p.old }
     requires first { is_fn_ptr_first (next (state p.old)) ≡ true }
-    ensures script { OnOk result (Does (G.left g.now) script.fn_ptr_type something (state p.old) (state p.new)) }
+    ensures script { OnOk result (Executes (G.left g.now) script.fn_ptr_type p.old p.new) }
 {
     let m = p.start()?;
     fn_qualifiers(p)?;
@@ -318,7 +313,7 @@ fn fn_ptr_type<G: Grammar>(p: &mut Parser<'_>, g: &G) -> Result<(), NoMemory>
 /// What stands before the `fn` of a function pointer, as `unsafe extern "C"`.
 #[tactic(auto, unfolding(rap_grammar_scripts::specs::Types::fn_qualifiers))]
 fn fn_qualifiers(p: &mut Parser<'_>) -> Result<(), NoMemory>
-    ensures script { OnOk result (DoesAlone script.fn_qualifiers something (state p.old) (state p.new)) }
+    ensures script { OnOk result (ExecutesAlone script.fn_qualifiers p.old p.new) }
 {
     p.eat(T![unsafe])?;
     if p.at(T![extern]) {
@@ -331,8 +326,8 @@ fn fn_qualifiers(p: &mut Parser<'_>) -> Result<(), NoMemory>
 /// The parameters of a function pointer, as `(a, b)`.
 #[tactic(auto, unfolding(rap_grammar_scripts::specs::Types::fn_ptr_params))]
 fn fn_ptr_params<G: Grammar>(p: &mut Parser<'_>, g: &G) -> Result<(), NoMemory>
-    requires within { Within G.valid G.left g.now (state p.old) }
-    ensures script { OnOk result (Does (G.left g.now) script.fn_ptr_params something (state p.old) (state p.new)) }
+    requires within { Within G.valid G.left g.now p.old }
+    ensures script { OnOk result (Executes (G.left g.now) script.fn_ptr_params p.old p.new) }
 {
     if p.at(T!['(']) {
         param_list_fn_ptr(p, g)?;
@@ -346,10 +341,9 @@ fn fn_ptr_params<G: Grammar>(p: &mut Parser<'_>, g: &G) -> Result<(), NoMemory>
 #[inline(never)]
 #[tactic(auto, using(rap_grammar_facts::proofs::Types::facts), unfolding(rap_grammar_scripts::specs::Types::for_type))]
 fn for_type<G: Grammar>(p: &mut Parser<'_>, g: &G, allow_bounds: bool) -> Result<(), NoMemory>
-    requires within { Within G.valid G.left g.now (state p.old) }
+    requires within { Within G.valid G.left g.now p.old }
     requires here { next (state p.old) ≡ FOR_KW }
-    ensures script { OnOk result
-        (Does (G.left g.now) (script.for_type allow_bounds) something (state p.old) (state p.new)) }
+    ensures script { OnOk result (Executes (G.left g.now) (script.for_type allow_bounds) p.old p.new) }
 {
     let m = p.start()?;
     for_binder(p, g)?;
@@ -370,10 +364,9 @@ fn for_target<G: Grammar>(
     m: Marker,
     allow_bounds: bool,
 ) -> Result<(), NoMemory>
-    requires behind { Behind G.valid G.left g.now (state p.old) }
+    requires behind { Behind G.valid G.left g.now p.old }
     requires newest { (state p.old).marker ≡ Some m.pos.value }
-    ensures script { OnOk result
-        (Does (G.left g.now) (script.for_target allow_bounds) something (state p.old) (state p.new)) }
+    ensures script { OnOk result (Executes (G.left g.now) (script.for_target allow_bounds) p.old p.new) }
 {
     type_no_bounds(p, g)?;
     let cm = m.complete(p, SyntaxKind::FOR_TYPE)?;
@@ -395,9 +388,9 @@ fn starts_for_target(p: &Parser<'_>) -> bool
 #[inline(never)]
 #[tactic(auto, unfolding(rap_grammar_scripts::specs::Types::impl_trait_type))]
 fn impl_trait_type<G: Grammar>(p: &mut Parser<'_>, g: &G) -> Result<(), NoMemory>
-    requires within { Within G.valid G.left g.now (state p.old) }
+    requires within { Within G.valid G.left g.now p.old }
     requires here { next (state p.old) ≡ IMPL_KW }
-    ensures script { OnOk result (Does (G.left g.now) script.impl_trait_type something (state p.old) (state p.new)) }
+    ensures script { OnOk result (Executes (G.left g.now) script.impl_trait_type p.old p.new) }
 {
     let m = p.start()?;
     p.bump(T![impl])?;
@@ -410,9 +403,9 @@ fn impl_trait_type<G: Grammar>(p: &mut Parser<'_>, g: &G) -> Result<(), NoMemory
 #[inline(never)]
 #[tactic(auto, unfolding(rap_grammar_scripts::specs::Types::dyn_trait_type))]
 fn dyn_trait_type<G: Grammar>(p: &mut Parser<'_>, g: &G) -> Result<(), NoMemory>
-    requires within { Within G.valid G.left g.now (state p.old) }
+    requires within { Within G.valid G.left g.now p.old }
     requires here { next (state p.old) ≡ DYN_KW }
-    ensures script { OnOk result (Does (G.left g.now) script.dyn_trait_type something (state p.old) (state p.new)) }
+    ensures script { OnOk result (Executes (G.left g.now) script.dyn_trait_type p.old p.new) }
 {
     let m = p.start()?;
     p.bump(T![dyn])?;
@@ -425,10 +418,9 @@ fn dyn_trait_type<G: Grammar>(p: &mut Parser<'_>, g: &G) -> Result<(), NoMemory>
 #[inline(never)]
 #[tactic(auto, unfolding(rap_grammar_scripts::specs::Types::dyn_trait_type_weak))]
 fn dyn_trait_type_weak<G: Grammar>(p: &mut Parser<'_>, g: &G) -> Result<(), NoMemory>
-    requires within { Within G.valid G.left g.now (state p.old) }
+    requires within { Within G.valid G.left g.now p.old }
     requires here { ReadsAs (state p.old) DYN_KW }
-    ensures script { OnOk result
-        (Does (G.left g.now) script.dyn_trait_type_weak something (state p.old) (state p.new)) }
+    ensures script { OnOk result (Executes (G.left g.now) script.dyn_trait_type_weak p.old p.new) }
 {
     let m = p.start()?;
     p.bump_remap(T![dyn])?;
@@ -441,10 +433,9 @@ fn dyn_trait_type_weak<G: Grammar>(p: &mut Parser<'_>, g: &G) -> Result<(), NoMe
 #[inline(never)]
 #[tactic(auto, unfolding(rap_grammar_scripts::specs::Types::bare_dyn_trait_type))]
 fn bare_dyn_trait_type<G: Grammar>(p: &mut Parser<'_>, g: &G) -> Result<(), NoMemory>
-    requires within { Within G.valid G.left g.now (state p.old) }
+    requires within { Within G.valid G.left g.now p.old }
     requires here { next (state p.old) ≡ LIFETIME_IDENT }
-    ensures script { OnOk result
-        (Does (G.left g.now) script.bare_dyn_trait_type something (state p.old) (state p.new)) }
+    ensures script { OnOk result (Executes (G.left g.now) script.bare_dyn_trait_type p.old p.new) }
 {
     let m = p.start()?;
     bounds_without_colon(p, g)?;
@@ -459,10 +450,9 @@ fn path_or_macro_type<G: Grammar>(
     g: &G,
     allow_bounds: bool,
 ) -> Result<(), NoMemory>
-    requires within { Within G.valid G.left g.now (state p.old) }
+    requires within { Within G.valid G.left g.now p.old }
     requires path { holds is_path_start (state p.old).rest ≡ true }
-    ensures script { OnOk result
-        (Does (G.left g.now) (script.path_or_macro_type allow_bounds) something (state p.old) (state p.new)) }
+    ensures script { OnOk result (Executes (G.left g.now) (script.path_or_macro_type allow_bounds) p.old p.new) }
 {
     if starts_builtin(p) {
         pattern_type(p, g)?;
@@ -476,10 +466,9 @@ fn path_or_macro_type<G: Grammar>(
 #[inline(never)]
 #[tactic(auto, using(rap_grammar_facts::proofs::Paths::took_type_path), unfolding(rap_grammar_scripts::specs::Types::path_or_macro))]
 fn path_or_macro<G: Grammar>(p: &mut Parser<'_>, g: &G, allow_bounds: bool) -> Result<(), NoMemory>
-    requires within { Within G.valid G.left g.now (state p.old) }
+    requires within { Within G.valid G.left g.now p.old }
     requires path { holds is_path_start (state p.old).rest ≡ true }
-    ensures script { OnOk result
-        (Does (G.left g.now) (script.path_or_macro allow_bounds) something (state p.old) (state p.new)) }
+    ensures script { OnOk result (Executes (G.left g.now) (script.path_or_macro allow_bounds) p.old p.new) }
 {
     let r = p.start()?;
     let m = p.start()?;
@@ -506,10 +495,9 @@ pub fn path_type_bounds<G: Grammar>(
     g: &G,
     allow_bounds: bool,
 ) -> Result<(), NoMemory>
-    requires within { Within G.valid G.left g.now (state p.old) }
+    requires within { Within G.valid G.left g.now p.old }
     requires path { holds is_path_start (state p.old).rest ≡ true }
-    ensures script { OnOk result
-        (Does (G.left g.now) (script.path_type_bounds allow_bounds) something (state p.old) (state p.new)) }
+    ensures script { OnOk result (Executes (G.left g.now) (script.path_type_bounds allow_bounds) p.old p.new) }
 {
     let path = path_type(p, g)?;
     if allow_bounds {
@@ -529,11 +517,10 @@ pub(crate) fn opt_type_bounds_as_dyn_trait_type<G: Grammar>(
     lhs: CompletedMarker,
     kind: SyntaxKind,
 ) -> Result<CompletedMarker, NoMemory>
-    requires behind { Behind G.valid G.left g.now (state p.old) }
+    requires behind { Behind G.valid G.left g.now p.old }
     requires last { IsLast (state p.old) lhs kind }
     ensures last { IfOk result (λ cm. IsLast (state p.new) cm cm.kind.value) }
-    ensures script { OnOk result
-        (Does (G.left g.now) (script.opt_type_bounds_as_dyn_trait_type kind) something (state p.old) (state p.new)) }
+    ensures script { OnOk result (Executes (G.left g.now) (script.opt_type_bounds_as_dyn_trait_type kind) p.old p.new) }
 {
     if kind == SyntaxKind::MACRO_TYPE || !p.at(T![+]) {
         return Ok(lhs);
@@ -552,10 +539,10 @@ pub(crate) fn opt_type_bounds_as_dyn_trait_type<G: Grammar>(
 #[inline(never)]
 #[tactic(auto, using(rap_grammar_frame::proofs::Done::marker_kept, rap_grammar_facts::proofs::Types::level_pattern_type_parts), unfolding(rap_grammar_scripts::specs::Types::pattern_type))]
 fn pattern_type<G: Grammar>(p: &mut Parser<'_>, g: &G) -> Result<(), NoMemory>
-    requires within { Within G.valid G.left g.now (state p.old) }
+    requires within { Within G.valid G.left g.now p.old }
     requires here { ReadsAs (state p.old) BUILTIN_KW }
     requires pound { NthAt (state p.old) 1 POUND }
-    ensures script { OnOk result (Does (G.left g.now) script.pattern_type something (state p.old) (state p.new)) }
+    ensures script { OnOk result (Executes (G.left g.now) script.pattern_type p.old p.new) }
 {
     let m = p.start()?;
     p.bump_remap(T![builtin])?;
@@ -573,8 +560,8 @@ fn pattern_type<G: Grammar>(p: &mut Parser<'_>, g: &G) -> Result<(), NoMemory>
 
 /// What stands after `builtin#pattern_type`: a type and its values, as `(a is 1..)`.
 fn pattern_type_parts<G: Grammar>(p: &mut Parser<'_>, g: &G) -> Result<(), NoMemory>
-    requires behind { Behind G.valid G.left g.now (state p.old) }
-    ensures script { OnOk result (Does (G.left g.now) script.pattern_type_parts something (state p.old) (state p.new)) }
+    requires behind { Behind G.valid G.left g.now p.old }
+    ensures script { OnOk result (Executes (G.left g.now) script.pattern_type_parts p.old p.new) }
 {
     p.expect(T!['('])?;
     type_(p, g)?;

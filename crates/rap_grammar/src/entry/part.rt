@@ -13,8 +13,8 @@ ghost use Rattle.rap_grammar_scripts.specs.Statements as statements_script;
 ghost use Rattle.rap_grammar_scripts.specs.Items as items_script;
 ghost use Rattle.rap_base.specs.Limits.{max_tokens};
 
-use super::run_alone;
-use crate::knot::{Rules, all_rules, run};
+use super::{expr_alone, run_alone};
+use crate::knot::{Rules, run};
 use rap_base::no_memory::NoMemory;
 use rap_events::input::Input;
 use rap_events::output::Output;
@@ -23,7 +23,6 @@ use rap_grammar_expressions_blocks::blocks::block_expr;
 use rap_grammar_expressions_control::matches::match_arm_list;
 use rap_grammar_expressions_operands::records::record_expr_field_list;
 use rap_grammar_frame::knot::Answer;
-use rap_grammar_frame::through_knot;
 use rap_grammar_frame::token_tree::token_tree;
 use rap_grammar_items_adt::adt::{record_field_list, variant_list};
 use rap_grammar_items_kinds::modules::{extern_item_list, item_list};
@@ -202,8 +201,7 @@ pub fn expr(alloc: Global, input: &Input) -> Result<Output, NoMemory>
     ensures script { IfOk result (IsPrefixOf through_knot_script.expr input.now) }
 {
     let mut p = Parser::new(alloc, input);
-    let g = all_rules(&p);
-    through_knot::expr(&mut p, &g)?;
+    expr_alone(&mut p)?;
     let output = p.process(alloc)?;
     Ok(output)
 }

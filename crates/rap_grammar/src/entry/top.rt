@@ -8,14 +8,13 @@ ghost use Rattle.rap_grammar_scripts.specs.Modules as modules_script;
 ghost use Rattle.rap_grammar.specs.Top.{IsTreeOver, IsTopOf, IsRootOf};
 ghost use Rattle.rap_base.specs.Limits.{max_tokens};
 
-use super::{close_root, close_top, run_alone};
-use crate::knot::{Brief, all_rules, run_brief};
+use super::{close_root, close_top, expr_alone, run_alone};
+use crate::knot::all_rules;
 use rap_base::no_memory::NoMemory;
 use rap_base::syntax_kind::SyntaxKind;
 use rap_events::input::Input;
 use rap_events::output::Output;
 use rap_events::parser::Parser;
-use rap_grammar_scripts::arguments::Restrictions;
 use rap_grammar_scripts::rule::Rule;
 use std::alloc::Global;
 
@@ -70,11 +69,7 @@ pub fn expr(alloc: Global, input: &Input) -> Result<Output, NoMemory>
 {
     let mut p = Parser::new(alloc, input);
     let m = p.start()?;
-    let r = Restrictions {
-        forbid_structs: false,
-        prefer_stmt: false,
-    };
-    run_brief(&mut p, Brief::Expr, r, 1)?;
+    expr_alone(&mut p)?;
     let output = close_top(alloc, p, m)?;
     Ok(output)
 }

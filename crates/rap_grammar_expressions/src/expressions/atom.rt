@@ -6,10 +6,9 @@ ghost use Rattle.rap_grammar_scripts.specs.Atom as script;
 ghost use Rattle.rap_grammar_scripts.specs.Words.{of_expr, of_like, of_bool};
 ghost use Rattle.rap_grammar_scripts.specs.First.{is_path_start};
 ghost use Rattle.rap_grammar_frame.specs.Grew.{Within, Behind};
-ghost use Rattle.rap_grammar_scripts.specs.Exec.{Does};
+ghost use Rattle.rap_grammar_scripts.specs.Exec.{Does, Executes};
 ghost use Rattle.rap_grammar_facts.specs.Alone.{DoesAlone};
 ghost use Rattle.rap_grammar_facts.specs.Nodes.{IsAtom, AtomIf};
-ghost use Rattle.rap_grammar_scripts.specs.Script.{something};
 ghost use Rattle.rap_grammar_scripts.specs.Test.{holds};
 
 use rap_base::T;
@@ -44,7 +43,7 @@ pub(crate) fn atom_expr<G: Grammar>(
     g: &G,
     r: Restrictions,
 ) -> Result<Answer, NoMemory>
-    requires within { Within G.valid G.left g.now (state p.old) }
+    requires within { Within G.valid G.left g.now p.old }
     requires more { next (state p.old) ≢ EOF }
     ensures atom { IfOk result (AtomIf (state p.old) (state p.new)) }
     ensures script { IfOk result
@@ -73,7 +72,7 @@ fn bracketed_expr<G: Grammar>(
     g: &G,
     r: Restrictions,
 ) -> Result<Answer, NoMemory>
-    requires within { Within G.valid G.left g.now (state p.old) }
+    requires within { Within G.valid G.left g.now p.old }
     requires more { next (state p.old) ≢ EOF }
     ensures atom { IfOk result (AtomIf (state p.old) (state p.new)) }
     ensures script { IfOk result
@@ -104,7 +103,7 @@ fn starts_label(p: &Parser<'_>) -> bool
 /// A condition, a loop or a `match`, or one of those that [`jump_expr`] reads.
 #[tactic(auto, unfolding(rap_grammar_scripts::specs::Atom::control_expr))]
 fn control_expr<G: Grammar>(p: &mut Parser<'_>, g: &G, r: Restrictions) -> Result<Answer, NoMemory>
-    requires within { Within G.valid G.left g.now (state p.old) }
+    requires within { Within G.valid G.left g.now p.old }
     requires more { next (state p.old) ≢ EOF }
     ensures atom { IfOk result (AtomIf (state p.old) (state p.new)) }
     ensures script { IfOk result
@@ -129,7 +128,7 @@ fn control_expr<G: Grammar>(p: &mut Parser<'_>, g: &G, r: Restrictions) -> Resul
 /// A jump, or one of those that [`effect_expr`] reads.
 #[tactic(auto, unfolding(rap_grammar_scripts::specs::Atom::jump_expr))]
 fn jump_expr<G: Grammar>(p: &mut Parser<'_>, g: &G, r: Restrictions) -> Result<Answer, NoMemory>
-    requires within { Within G.valid G.left g.now (state p.old) }
+    requires within { Within G.valid G.left g.now p.old }
     requires more { next (state p.old) ≢ EOF }
     ensures atom { IfOk result (AtomIf (state p.old) (state p.new)) }
     ensures script { IfOk result
@@ -157,8 +156,7 @@ fn jump_expr<G: Grammar>(p: &mut Parser<'_>, g: &G, r: Restrictions) -> Result<A
 fn underscore_expr(p: &mut Parser<'_>) -> Result<CompletedMarker, NoMemory>
     requires here { next (state p.old) ≡ UNDERSCORE }
     ensures atom { IfOk result (IsAtom (state p.old) (state p.new)) }
-    ensures script { OnOk result
-        ((depth : ℕ) → Does depth script.underscore_expr something (state p.old) (state p.new)) }
+    ensures script { OnOk result ((depth : ℕ) → Executes depth script.underscore_expr p.old p.new) }
 {
     let m = p.start()?;
     p.bump(T![_])?;
@@ -182,7 +180,7 @@ fn path_expr<G: Grammar>(
     g: &G,
     r: Restrictions,
 ) -> Result<(CompletedMarker, BlockLike), NoMemory>
-    requires within { Within G.valid G.left g.now (state p.old) }
+    requires within { Within G.valid G.left g.now p.old }
     requires path { holds is_path_start (state p.old).rest ≡ true }
     ensures atom { IfOk result (λ e. IsAtom (state p.old) (state p.new) e.0) }
     ensures script { IfOk result
@@ -210,10 +208,10 @@ fn path_expr<G: Grammar>(
 #[inline(never)]
 #[tactic(auto, using(rap_grammar_frame::proofs::Done::less_left, rap_grammar_frame::proofs::Done::marker_kept, rap_grammar_facts::proofs::Atom::level_tuple_elements), unfolding(rap_grammar_scripts::specs::Atom::tuple_expr))]
 fn tuple_expr<G: Grammar>(p: &mut Parser<'_>, g: &G) -> Result<CompletedMarker, NoMemory>
-    requires within { Within G.valid G.left g.now (state p.old) }
+    requires within { Within G.valid G.left g.now p.old }
     requires here { next (state p.old) ≡ L_PAREN }
     ensures atom { IfOk result (IsAtom (state p.old) (state p.new)) }
-    ensures script { OnOk result (Does (G.left g.now) script.tuple_expr something (state p.old) (state p.new)) }
+    ensures script { OnOk result (Executes (G.left g.now) script.tuple_expr p.old p.new) }
 {
     let m = p.start()?;
     p.bump(T!['('])?;
@@ -231,7 +229,7 @@ fn tuple_expr<G: Grammar>(p: &mut Parser<'_>, g: &G) -> Result<CompletedMarker, 
 /// What stands in parentheses. Returns whether it is one expression and no comma.
 #[tactic(auto, using(rap_grammar_frame::proofs::Loops::turns), unfolding(rap_grammar_scripts::specs::Atom::tuple_elements))]
 fn tuple_elements<G: Grammar>(p: &mut Parser<'_>, g: &G) -> Result<bool, NoMemory>
-    requires behind { Behind G.valid G.left g.now (state p.old) }
+    requires behind { Behind G.valid G.left g.now p.old }
     ensures script { IfOk result
         (λ parens. Does (G.left g.now) script.tuple_elements (of_bool parens) (state p.old) (state p.new)) }
 {
@@ -261,10 +259,10 @@ fn tuple_elements<G: Grammar>(p: &mut Parser<'_>, g: &G) -> Result<bool, NoMemor
 #[inline(never)]
 #[tactic(auto, using(rap_grammar_frame::proofs::Done::less_left, rap_grammar_frame::proofs::Done::marker_kept, rap_grammar_facts::proofs::Atom::level_array_elements), unfolding(rap_grammar_scripts::specs::Atom::array_expr))]
 fn array_expr<G: Grammar>(p: &mut Parser<'_>, g: &G) -> Result<CompletedMarker, NoMemory>
-    requires within { Within G.valid G.left g.now (state p.old) }
+    requires within { Within G.valid G.left g.now p.old }
     requires here { next (state p.old) ≡ L_BRACK }
     ensures atom { IfOk result (IsAtom (state p.old) (state p.new)) }
-    ensures script { OnOk result (Does (G.left g.now) script.array_expr something (state p.old) (state p.new)) }
+    ensures script { OnOk result (Executes (G.left g.now) script.array_expr p.old p.new) }
 {
     let m = p.start()?;
     p.bump(T!['['])?;
@@ -277,8 +275,8 @@ fn array_expr<G: Grammar>(p: &mut Parser<'_>, g: &G) -> Result<CompletedMarker, 
 /// What stands in the brackets of an array.
 #[tactic(auto, using(rap_grammar_facts::proofs::Alone::alone_less_left, rap_grammar_frame::proofs::Loops::turns), unfolding(rap_grammar_scripts::specs::Atom::array_elements))]
 fn array_elements<G: Grammar>(p: &mut Parser<'_>, g: &G) -> Result<(), NoMemory>
-    requires behind { Behind G.valid G.left g.now (state p.old) }
-    ensures script { OnOk result (Does (G.left g.now) script.array_elements something (state p.old) (state p.new)) }
+    requires behind { Behind G.valid G.left g.now p.old }
+    ensures script { OnOk result (Executes (G.left g.now) script.array_elements p.old p.new) }
 {
     let mut is_first = true;
     let mut has_semi = false;

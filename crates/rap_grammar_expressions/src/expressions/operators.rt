@@ -10,11 +10,10 @@ ghost use Rattle.rap_grammar_frame.specs.Climb.{Climbed, LeftFits, Bound};
 ghost use Rattle.rap_grammar_scripts.specs.Operators as script;
 ghost use Rattle.rap_grammar_scripts.specs.First.{one_of};
 ghost use Rattle.rap_grammar_frame.specs.Grew.{Within};
-ghost use Rattle.rap_grammar_scripts.specs.Exec.{Does};
-ghost use Rattle.rap_grammar_facts.specs.Alone.{DoesAlone};
+ghost use Rattle.rap_grammar_scripts.specs.Exec.{Executes};
+ghost use Rattle.rap_grammar_facts.specs.Alone.{ExecutesAlone};
 ghost use Rattle.rap_grammar_scripts.specs.Operator.{operator_at};
 ghost use Rattle.rap_grammar_facts.specs.Nodes.{IsAtom, Wrapped};
-ghost use Rattle.rap_grammar_scripts.specs.Script.{something};
 
 use rap_base::T;
 use rap_base::no_memory::NoMemory;
@@ -95,14 +94,14 @@ pub(crate) fn climb<G: Grammar>(
     r: Restrictions,
     bp: u8,
 ) -> Result<CompletedMarker, NoMemory>
-    requires within { Within G.valid G.left g.now (state p.old) }
+    requires within { Within G.valid G.left g.now p.old }
     requires last { IsLast (state p.old) lhs lhs.kind.value }
     requires plain { is_plain lhs.kind.value ≡ true }
     requires power { 1 ≤ bp }
     ensures last { IfOk result (λ cm. IsLast (state p.new) cm cm.kind.value) }
     ensures one { OnOk result (but_last (state p.new).forest ≡ but_last (state p.old).forest) }
     ensures climbed { IfOk result (λ cm. Climbed (state p.new) cm.kind.value bp false) }
-    ensures script { OnOk result (Does (G.left g.now) (script.climb r bp) something (state p.old) (state p.new)) }
+    ensures script { OnOk result (Executes (G.left g.now) (script.climb r bp) p.old p.new) }
 {
     'operators: loop {
         let (op_bp, op, associativity) = current_op(p);
@@ -137,7 +136,7 @@ fn bin_expr<G: Grammar>(
     bp: u8,
     associativity: Associativity,
 ) -> Result<CompletedMarker, NoMemory>
-    requires within { Within G.valid G.left g.now (state p.old) }
+    requires within { Within G.valid G.left g.now p.old }
     requires last { IsLast (state p.old) lhs lhs.kind.value }
     requires here { At (state p.old) op }
     requires power { bp ≡ power op }
@@ -148,7 +147,7 @@ fn bin_expr<G: Grammar>(
     requires left_side { (state p.old).messages ≡ 0 → LeftFits lhs.kind.value (last_children (state p.old).forest) bp }
     ensures wraps { IfOk result (Wrapped BIN_EXPR (state p.old) (state p.new)) }
     ensures bound { OnOk result ((state p.new).messages ≡ 0 → Bound (state p.new) bp) }
-    ensures script { OnOk result (Does (G.left g.now) (script.bin_expr r op) something (state p.old) (state p.new)) }
+    ensures script { OnOk result (Executes (G.left g.now) (script.bin_expr r op) p.old p.new) }
 {
     let m = lhs.precede(p)?;
     p.bump(op)?;
@@ -170,11 +169,11 @@ fn cast_expr<G: Grammar>(
     g: &G,
     lhs: CompletedMarker,
 ) -> Result<CompletedMarker, NoMemory>
-    requires within { Within G.valid G.left g.now (state p.old) }
+    requires within { Within G.valid G.left g.now p.old }
     requires last { IsLast (state p.old) lhs lhs.kind.value }
     requires here { At (state p.old) AS_KW }
     ensures wraps { IfOk result (Wrapped CAST_EXPR (state p.old) (state p.new)) }
-    ensures script { OnOk result (Does (G.left g.now) script.cast_expr something (state p.old) (state p.new)) }
+    ensures script { OnOk result (Executes (G.left g.now) script.cast_expr p.old p.new) }
 {
     let m = lhs.precede(p)?;
     p.bump(T![as])?;
@@ -203,7 +202,7 @@ fn right_power(bp: u8, associativity: Associativity) -> u8
 /// Elsewhere `raw` is a name itself, as in `&raw.b`.
 #[tactic(auto, unfolding(rap_grammar_scripts::specs::Operators::ref_qualifier))]
 fn ref_qualifier(p: &mut Parser<'_>) -> Result<(), NoMemory>
-    ensures script { OnOk result (DoesAlone script.ref_qualifier something (state p.old) (state p.new)) }
+    ensures script { OnOk result (ExecutesAlone script.ref_qualifier p.old p.new) }
 {
     if p.at_contextual_kw(T![raw]) && is_raw_follow(p.nth(1)) {
         p.bump_remap(T![raw])?;
@@ -232,10 +231,10 @@ pub(crate) fn ref_expr<G: Grammar>(
     g: &G,
     r: Restrictions,
 ) -> Result<CompletedMarker, NoMemory>
-    requires within { Within G.valid G.left g.now (state p.old) }
+    requires within { Within G.valid G.left g.now p.old }
     requires here { next (state p.old) ≡ AMP }
     ensures atom { IfOk result (IsAtom (state p.old) (state p.new)) }
-    ensures script { OnOk result (Does (G.left g.now) (script.ref_expr r) something (state p.old) (state p.new)) }
+    ensures script { OnOk result (Executes (G.left g.now) (script.ref_expr r) p.old p.new) }
 {
     let m = p.start()?;
     p.bump(T![&])?;
@@ -259,10 +258,10 @@ pub(crate) fn prefix_expr<G: Grammar>(
     g: &G,
     r: Restrictions,
 ) -> Result<CompletedMarker, NoMemory>
-    requires within { Within G.valid G.left g.now (state p.old) }
+    requires within { Within G.valid G.left g.now p.old }
     requires more { next (state p.old) ≢ EOF }
     ensures atom { IfOk result (IsAtom (state p.old) (state p.new)) }
-    ensures script { OnOk result (Does (G.left g.now) (script.prefix_expr r) something (state p.old) (state p.new)) }
+    ensures script { OnOk result (Executes (G.left g.now) (script.prefix_expr r) p.old p.new) }
 {
     let m = p.start()?;
     p.bump_any()?;
