@@ -115,6 +115,7 @@ impl Builder {
         ensures count { result ≡ length self.now.elements.items }
         ensures below { vec_len self.now.elements < self.now.room → result + 1 < 2 ^ 32 }
     {
+        // For the proof: it fits its type.
         let _room = self.room;
         self.elements.len() as u32
     }

@@ -44,6 +44,7 @@ impl FlatTree<'_> {
             return None;
         }
         let index = begun - 1;
+        // For the proof: it fits its type.
         let _after = elements[index].after();
         Some(index as u32)
     }

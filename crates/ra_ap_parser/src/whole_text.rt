@@ -89,12 +89,14 @@ pub fn parse_tokens<'t, R>(
         Err(LexFault::TextTooLong) => return Err(TextFault::TextTooLong),
         Err(LexFault::NoMemory) => return Err(without_memory(alloc, edition, text)),
     };
+    // For the proof: it fits its type.
     let _count = lexed.len();
     let Ok(input) = lexed.to_input(alloc, edition) else {
         return Err(without_memory(alloc, edition, text));
     };
     match entry.parse(alloc, &input) {
         Ok(output) => {
+            // For the proof: what holds of every output.
             let _steps = output.iter();
             Ok(ParsedTokens { lexed, output })
         }

@@ -48,6 +48,7 @@ impl<'a> Filler<'a> {
         ensures messages { result.messages.ghost_name ≡ messages.entry.ghost_name }
     {
         let _step_room = steps.len();
+        // For the proof: it fits its type.
         let _message_room = messages.len();
         Filler {
             steps,
@@ -62,6 +63,7 @@ impl<'a> Filler<'a> {
     fn put(&mut self, what: u32, kind: u32, width: usize)
         ensures { Puts what kind width self.old self.new }
     {
+        // For the proof: it fits its type.
         let _said = self.said;
         let at = self.place;
         let end = at.saturating_add(width);

@@ -43,6 +43,7 @@ impl<'a, 'm, 'w> NodeFiller<'a, 'm, 'w> {
         ensures messages { result.messages.ghost_name ≡ messages.entry.ghost_name }
         ensures bytes { result.bytes.ghost_name ≡ bytes.entry.ghost_name }
     {
+        // For the proof: it fits its type.
         let _message_room = messages.len();
         let _byte_room = bytes.len();
         NodeFiller {

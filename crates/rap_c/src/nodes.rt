@@ -64,12 +64,14 @@ fn whole_of<'t>(
         Err(LexFault::TextTooLong) => return Err(Fault::TextTooLong),
         Err(LexFault::NoMemory) => return Err(without_memory(alloc, edition, text)),
     };
+    // For the proof: it fits its type.
     let _count = lexed.len();
     let Ok(input) = lexed.to_input(alloc, edition) else {
         return Err(without_memory(alloc, edition, text));
     };
     match entry.parse(alloc, &input) {
         Ok(output) => {
+            // For the proof: what holds of every output.
             let _steps = output.iter();
             Ok(Whole { lexed, output })
         }
@@ -90,6 +92,7 @@ fn walk(lexed: &LexedStr<'_>, output: &Output, filler: &mut NodeFiller<'_, '_, '
     ensures splits { splits_placed output.now ≡ true }
     ensures tokens { AreTokens lexed.now.tokens }
 {
+    // For the proof: what holds of every output, and that the number of tokens fits its type.
     let _steps = output.iter();
     let _count = lexed.len();
     match lexed.intersperse_trivia(output, filler) {
@@ -141,6 +144,7 @@ fn fill_nodes(
     ensures untouched { IfErr result (λ _. AreNodesUntouched (rooms_of elements.old messages.old bytes.old) (rooms_of elements.new messages.new bytes.new)) }
 {
     let whole = whole_of(alloc, edition, entry, text)?;
+    // For the proof: it fits its type.
     let _count = whole.lexed.len();
     let Ok(waiting) = waiting_of(alloc, &whole.lexed) else {
         return Err(Fault::NoMemory);

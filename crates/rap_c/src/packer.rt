@@ -50,6 +50,7 @@ impl<'a> Packer<'a> {
         ensures messages { result.messages.ghost_name ≡ messages.entry.ghost_name }
     {
         let _word_room = words.len();
+        // For the proof: it fits its type.
         let _message_room = messages.len();
         Packer {
             words,
@@ -64,6 +65,7 @@ impl<'a> Packer<'a> {
     fn put(&mut self, word: u32)
         ensures { PutsWord word self.old self.new }
     {
+        // For the proof: both fit their type.
         let _said = self.said;
         let _message_room = self.messages.len();
         let count = self.count;

@@ -27,6 +27,7 @@ fn fill_tree(
     let mut filler = Filler::new(steps, messages);
     match parse_text(alloc, edition, entry, text, &mut filler) {
         Ok(parsed) => {
+            // For the proof: it fits its type.
             let _count = parsed.lexed.len();
             filler.add_errors_of(&parsed.lexed);
             Ok(filler.answer(OK, text.len()))

@@ -27,6 +27,7 @@ fn fill_tree_words(
     let mut packer = Packer::new(words, messages);
     match parse_text(alloc, edition, entry, text, &mut packer) {
         Ok(parsed) => {
+            // For the proof: it fits its type.
             let _count = parsed.lexed.len();
             let tree = packer.count;
             packer.add_errors_of(&parsed.lexed);

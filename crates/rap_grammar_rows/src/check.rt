@@ -31,6 +31,7 @@ fn walked(
     requires { All (Holds input.now) facts.now }
     ensures { IfOk result (λ r. IfSome r (λ shape. From input.now end shape (point start.place start.shape start.frames.items start.at))) }
 {
+    // For the proof: it fits its type.
     let _tokens = input.len();
     let mut walk = start;
     'parts: for _ in 0..u64::MAX {
@@ -122,6 +123,7 @@ fn row(
     requires { All (Holds input.now) facts.now }
     ensures { IfOk result (λ r. IfSome r (λ fact. Holds input.now fact)) }
 {
+    // For the proof: it fits its type.
     let _tokens = input.len();
     let (start, end) = tokens;
     let walk = Walk {
@@ -152,6 +154,7 @@ fn turn_row(
     requires { All (Holds input.now) facts.now }
     ensures { IfOk result (λ r. IfSome r (λ fact. Holds input.now fact)) }
 {
+    // For the proof: it fits its type.
     let _tokens = input.len();
     let (start, end) = tokens;
     let mut frames = Vec::new(alloc);
@@ -184,6 +187,7 @@ fn category(
     requires { All (Holds input.now) facts.now }
     ensures { IfOk result (λ r. IfSome r (λ fact. Holds input.now fact)) }
 {
+    // For the proof: it fits its type.
     let _tokens = input.len();
     let (start, end) = tokens;
     let (number, row) = numbers;
@@ -211,6 +215,7 @@ fn last_turn(input: &Input, turn: usize, last: Fact) -> Option<Fact>
     requires { Holds input.now last }
     ensures { IfSome result (λ fact. Holds input.now fact) }
 {
+    // For the proof: it fits its type.
     let _tokens = input.len();
     let Goal::Row(place, _) = last.goal else {
         return None;
@@ -228,6 +233,7 @@ fn one_turn(input: &Input, turn: Fact, more: Fact) -> Option<Fact>
     requires more { Holds input.now more }
     ensures { IfSome result (λ fact. Holds input.now fact) }
 {
+    // For the proof: it fits its type.
     let _tokens = input.len();
     let Goal::Row(place, _) = turn.goal else {
         return None;
@@ -249,6 +255,7 @@ fn one_turn(input: &Input, turn: Fact, more: Fact) -> Option<Fact>
 fn no_fold(input: &Input, place: usize, number: u16, at: usize) -> Fact
     ensures { Holds input.now result }
 {
+    // For the proof: it fits its type.
     let _tokens = input.len();
     Fact {
         goal: Goal::Fold(place, number),
@@ -263,6 +270,7 @@ fn one_fold(input: &Input, number: u16, skips: usize, turn: Fact, more: Fact) ->
     requires more { Holds input.now more }
     ensures { IfSome result (λ fact. Holds input.now fact) }
 {
+    // For the proof: it fits its type.
     let _tokens = input.len();
     let Goal::Turn(row) = turn.goal else {
         return None;
@@ -293,6 +301,7 @@ fn checked(
     requires { All (Holds input.now) facts.now }
     ensures { IfOk result (λ r. IfSome r (λ fact. Holds input.now fact)) }
 {
+    // For the proof: it fits its type.
     let _tokens = input.len();
     match claim {
         Claim::Row(place, start, end) => row(alloc, input, facts, place, (start, end), moves),
@@ -309,6 +318,7 @@ fn joined(input: &Input, facts: &[Fact], claim: Claim) -> Option<Fact>
     requires { All (Holds input.now) facts.now }
     ensures { IfSome result (λ fact. Holds input.now fact) }
 {
+    // For the proof: it fits its type.
     let _tokens = input.len();
     match claim {
         Claim::LastTurn(turn, last) => last_turn(input, turn, fact_at(input, facts, last)?),
@@ -340,6 +350,7 @@ fn all_checked(
 ) -> Result<Option<Vec<Fact>>, NoMemory>
     ensures { IfOk result (λ r. IfSome r (λ facts. All (Holds input.now) facts.items)) }
 {
+    // For the proof: it fits its type.
     let _tokens = input.len();
     let mut moves = Moves::new(moves);
     let mut facts = Vec::new(alloc);
@@ -384,6 +395,7 @@ fn is_file(input: &Input, fact: Fact, len: usize) -> bool
     requires len { len ≡ length input.now }
     ensures { IsTrue result → (forest : Forest) × MakesRow file_row input.now forest }
 {
+    // For the proof: it fits its type.
     let _tokens = input.len();
     let Goal::Row(place, _) = fact.goal else {
         return false;

@@ -96,6 +96,7 @@ impl Walk {
         requires { at_place self.old.place ≡ close kind (at_place next) }
         ensures { StepIs input.now end (point self.old.place self.old.shape self.old.frames.items self.old.at) (point self.new.place self.new.shape self.new.frames.items self.new.at) result }
     {
+        // For the proof: each fits its type.
         let _tokens = (input.len(), end, kind);
         let Some(Frame::Opened(outer)) = take_newest(&mut self.frames) else {
             return Outcome::Stuck;
@@ -130,6 +131,7 @@ impl Walk {
         requires { at_place self.old.place ≡ nil }
         ensures { StepIs input.now end (point self.old.place self.old.shape self.old.frames.items self.old.at) (point self.new.place self.new.shape self.new.frames.items self.new.at) result }
     {
+        // For the proof: it fits its type.
         let _tokens = input.len();
         match take_newest(&mut self.frames) {
             Some(Frame::Then(next)) => {
@@ -171,6 +173,7 @@ impl Walk {
         requires { at_place self.old.place ≡ piece (tok (set_in kinds sets) (words_in words sets)) (at_place next) }
         ensures { StepIs input.now end (point self.old.place self.old.shape self.old.frames.items self.old.at) (point self.new.place self.new.shape self.new.frames.items self.new.at) result }
     {
+        // For the proof: it fits its type.
         let _end = end;
         if self.at >= input.len() || !is_token(input, self.at, kinds, words) {
             return Outcome::Stuck;
@@ -184,6 +187,7 @@ impl Walk {
         requires { at_place self.old.place ≡ piece (word kind) (at_place next) }
         ensures { StepIs input.now end (point self.old.place self.old.shape self.old.frames.items self.old.at) (point self.new.place self.new.shape self.new.frames.items self.new.at) result }
     {
+        // For the proof: it fits its type.
         let _end = end;
         if self.at >= input.len() || !is_word(input, self.at, kind) {
             return Outcome::Stuck;
@@ -204,6 +208,7 @@ impl Walk {
         requires { at_place self.old.place ≡ piece (comp kind) (at_place next) }
         ensures { StepIs input.now end (point self.old.place self.old.shape self.old.frames.items self.old.at) (point self.new.place self.new.shape self.new.frames.items self.new.at) result }
     {
+        // For the proof: it fits its type.
         let _end = end;
         let Some(to) = operator_end(alloc, input, self.at, kind) else {
             return Outcome::Stuck;
@@ -225,6 +230,7 @@ impl Walk {
         requires holds { Holds input.now fact }
         ensures { StepIs input.now end (point self.old.place self.old.shape self.old.frames.items self.old.at) (point self.new.place self.new.shape self.new.frames.items self.new.at) result }
     {
+        // For the proof: each fits its type.
         let _tokens = (input.len(), end);
         let Goal::Category(category, shape) = fact.goal else {
             return Outcome::Stuck;
@@ -242,6 +248,7 @@ impl Walk {
         requires holds { Holds input.now fact }
         ensures { StepIs input.now end (point self.old.place self.old.shape self.old.frames.items self.old.at) (point self.new.place self.new.shape self.new.frames.items self.new.at) result }
     {
+        // For the proof: each fits its type.
         let _tokens = (input.len(), end);
         let Goal::Row(place, shape) = fact.goal else {
             return Outcome::Stuck;
@@ -266,6 +273,7 @@ impl Walk {
         requires holds { Holds input.now fact }
         ensures { StepIs input.now end (point self.old.place self.old.shape self.old.frames.items self.old.at) (point self.new.place self.new.shape self.new.frames.items self.new.at) result }
     {
+        // For the proof: each fits its type.
         let _tokens = (input.len(), end);
         let Goal::Turns(turn, last) = fact.goal else {
             return Outcome::Stuck;
@@ -290,6 +298,7 @@ impl Walk {
         requires holds { Holds input.now fact }
         ensures { StepIs input.now end (point self.old.place self.old.shape self.old.frames.items self.old.at) (point self.new.place self.new.shape self.new.frames.items self.new.at) result }
     {
+        // For the proof: each fits its type.
         let _tokens = (input.len(), end);
         let Goal::Fold(place, number) = fact.goal else {
             return Outcome::Stuck;
@@ -323,6 +332,7 @@ impl Walk {
         requires holds { Holds input.now fact }
         ensures { StepIs input.now end (point self.old.place self.old.shape self.old.frames.items self.old.at) (point self.new.place self.new.shape self.new.frames.items self.new.at) result }
     {
+        // For the proof: it fits its type.
         let _tokens = input.len();
         match part {
             Part::Category(number, next) => self.category(input, end, fact, number, next),
@@ -345,6 +355,7 @@ impl Walk {
         requires { All (Holds input.now) facts.now }
         ensures { IfOk result (λ outcome. StepIs input.now end (point self.old.place self.old.shape self.old.frames.items self.old.at) (point self.new.place self.new.shape self.new.frames.items self.new.at) outcome) }
     {
+        // For the proof: it fits its type.
         let _tokens = input.len();
         let Some(part) = part_at(self.place) else {
             return Ok(Outcome::Stuck);

@@ -413,6 +413,7 @@ impl<'a> LexedStr<'a> {
         ensures token { result.now ≡ (token_at self.now.tokens i).text }
         ensures slice { result.now ≡ slice_range (joined self.now.tokens) (start_of self.now.tokens i) (start_of self.now.tokens (i + 1)) }
     {
+        // For the proof: it fits its type.
         let _count = self.len();
         self.range_text(i..i + 1)
     }
@@ -434,6 +435,7 @@ impl<'a> LexedStr<'a> {
         ensures start { result.start ≡ start_of self.now.tokens i }
         ensures end { result.end ≡ start_of self.now.tokens (i + 1) }
     {
+        // For the proof: it fits its type.
         let _count = self.len();
         let start = self.text_start(i);
         start..self.text_start(i + 1)

@@ -22,6 +22,7 @@ pub fn covered(alloc: Global, steps: &[Step<'_>], input: &Input) -> Option<usize
     requires { flat (forest_of (map step_value steps.now)) ≡ map step_value steps.now }
     ensures { MatchOption result (covers input.now (forest_of (map step_value steps.now)) ≡ false) (λ count. (covers input.now (forest_of (map step_value steps.now)) ≡ true) × (count ≡ used (forest_of (map step_value steps.now)))) }
 {
+    // For the proof: it fits its type.
     let _count = input.len();
     let mut place = 0usize;
     'steps: for step in steps {

@@ -148,6 +148,7 @@ fn list_kept(alloc: Global, way: Way, tokens: &Tokens) -> Result<String, CallFau
 fn count_messages(output: &Output) -> usize
     ensures { result ≡ messages_in (flat output.now) }
 {
+    // For the proof: what holds of every output.
     let _steps = output.iter().len();
     let mut count = 0usize;
     'steps: for step in output.iter() {

@@ -54,6 +54,7 @@ impl<'t> Tree<'t> {
         ensures places { IfOk result (λ tree. HavePlaces (joined lexed.now.tokens) (alone tree.root)) }
     {
         let mut builder = Builder::new(alloc);
+        // For the proof: it fits its type.
         let _count = lexed.len();
         let _whole = lexed.intersperse_trivia(output, &mut builder)?;
         Ok(Tree {

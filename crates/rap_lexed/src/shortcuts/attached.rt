@@ -65,6 +65,7 @@ fn begin_after(lexed: &LexedStr<'_>, start: usize, begin: usize, i: usize) -> us
     if lexed.kind(i) == SyntaxKind::COMMENT {
         return begin;
     }
+    // For the proof: it fits its type.
     let _count = lexed.len();
     if begin == i || ends_tail(lexed, start, i) {
         i + 1

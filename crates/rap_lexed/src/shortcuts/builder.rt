@@ -121,6 +121,7 @@ impl<'a, 'text> Builder<'a, 'text> {
         ensures after { OnOk result (self.new ≡ moved self.old (float_split ends_in_dot)) }
     {
         self.settle(sink)?;
+        // For the proof: it fits its type.
         let _count = self.lexed.len();
         let text = self.lexed.text(self.pos);
         let start = self.lexed.text_start(self.pos);
@@ -285,6 +286,7 @@ impl<'a, 'text> Builder<'a, 'text> {
         ensures steps { HandsOut S.takes S.refuses sink.old (str_token kind (text_of self.old.lexed.now.tokens self.old.pos n_input_tokens) ∷ []) result sink.new }
         ensures after { OnOk result (self.new ≡ record self.old { pos = self.old.pos + n_input_tokens }) }
     {
+        // For the proof: it fits its type.
         let _count = self.lexed.len();
         let text = self.lexed.range_text(self.pos..self.pos + n_input_tokens);
         self.pos += n_input_tokens;

@@ -61,6 +61,7 @@ fn block_kind(cursor: &Cursor<'_>) -> SyntaxKind
 fn eat_body(cursor: &mut Cursor<'_>) -> bool
     ensures { MatchBool result (Ends cursor.old cursor.new) ((cursor.new ≡ []) × ((end : List ℕ) → ¬ Ends cursor.old end)) }
 {
+    // For the proof: it fits its type.
     let _len = cursor.len();
     let mut depth: u64 = 1;
     'body: loop {

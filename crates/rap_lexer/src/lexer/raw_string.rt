@@ -50,6 +50,7 @@ fn count_hashes(cursor: &mut Cursor<'_>) -> usize
     ensures count { result ≡ length (run_of (is_in Hash) cursor.old) }
     ensures rest { cursor.new ≡ after_run (is_in Hash) cursor.old }
 {
+    // For the proof: it fits its type.
     let _len = cursor.len();
     let mut count = 0usize;
     'hashes: while cursor.is_next('#') {
