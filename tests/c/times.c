@@ -4,10 +4,13 @@
  * rap_tree_words without room, which hands out the steps and keeps none; of rap_tree_words, of rap_nodes, and of a walk
  * over all elements that counts the nodes of each kind, in millions of elements a second; of a walk that goes from each
  * node to its children and counts them; and of the search for the leaf at each of a million places drawn at random, and
- * for the smallest element that holds each of a million ranges of up to 64 bytes, in nanoseconds a place. The arrays
- * are written once before anything is timed. It runs on a stack as large as rap_stack says. */
+ * for the smallest element that holds each of a million ranges of up to 64 bytes, in nanoseconds a place. The calls
+ * take turns. The arrays are written once before anything is timed, and what memory a call gave back is kept for the
+ * next one, so that none waits for the system's. It runs on a stack as large as rap_stack says. */
 #define _GNU_SOURCE
 #include "rap.h"
+#include <limits.h>
+#include <malloc.h>
 #include <pthread.h>
 #include <stdio.h>
 #include <stdlib.h>
@@ -39,41 +42,6 @@ static void *room(size_t count, size_t size)
 static void say(const char *name, double took)
 {
     printf("%-10s %8.2f ms %8.1f MB/s\n", name, took, 1e-3 * (double)length / took);
-}
-
-/* The time of rap_tree_words without room. */
-static double time_counts(void)
-{
-    uint8_t none[1];
-    uint32_t one[1];
-    double least = 1e9;
-    for (int i = 0; i <= rounds; i++) {
-        double begun = now();
-        rap_tree_words(text, length, 2024, RAP_SOURCE_FILE, one, 0, none, 0);
-        double took = now() - begun;
-        least = i && took < least ? took : least;
-    }
-    return least;
-}
-
-/* The time of rap_tree_words. */
-static double time_words(void)
-{
-    uint8_t none[1];
-    uint32_t one[1];
-    struct rap_answer all = rap_tree_words(text, length, 2024, RAP_SOURCE_FILE, one, 0, none, 0);
-    uint32_t *words = room(all.steps, sizeof *words);
-    uint8_t *messages = room(all.message_bytes, 1);
-    double least = 1e9;
-    for (int i = 0; i <= rounds; i++) {
-        double begun = now();
-        rap_tree_words(text, length, 2024, RAP_SOURCE_FILE, words, all.steps, messages, all.message_bytes);
-        double took = now() - begun;
-        least = i && took < least ? took : least;
-    }
-    free(words);
-    free(messages);
-    return least;
 }
 
 /* Counts the nodes and leaves of each kind. */
@@ -156,38 +124,79 @@ static void time_walks(const struct rap_element *e, size_t count)
     printf("kept       %d\n", (int)(kept % 10));
 }
 
-/* The time of rap_nodes, and of walks over its elements. */
-static void time_nodes(void)
+/* The arrays that the calls write. */
+struct arrays {
+    struct rap_answer words_room;
+    struct rap_nodes_answer nodes_room;
+    uint32_t *words;
+    uint8_t *words_bytes;
+    struct rap_element *elements;
+    struct rap_message *messages;
+    uint8_t *nodes_bytes;
+};
+
+static void call_counts(struct arrays *a)
 {
-    struct rap_element one[1];
+    rap_tree_words(text, length, 2024, RAP_SOURCE_FILE, a->words, 0, a->words_bytes, 0);
+}
+
+static void call_words(struct arrays *a)
+{
+    rap_tree_words(text, length, 2024, RAP_SOURCE_FILE, a->words, a->words_room.steps, a->words_bytes,
+                   a->words_room.message_bytes);
+}
+
+static void call_nodes(struct arrays *a)
+{
+    rap_nodes(text, length, 2024, RAP_SOURCE_FILE, a->elements, a->nodes_room.elements, a->messages,
+              a->nodes_room.messages, a->nodes_bytes, a->nodes_room.message_bytes);
+}
+
+/* Arrays as long as the tree asks for. */
+static struct arrays make_arrays(void)
+{
+    struct arrays a;
+    struct rap_element element[1];
     struct rap_message message[1];
-    uint8_t none[1];
-    struct rap_nodes_answer all =
-        rap_nodes(text, length, 2024, RAP_SOURCE_FILE, one, 0, message, 0, none, 0);
-    struct rap_element *elements = room(all.elements, sizeof *elements);
-    struct rap_message *messages = room(all.messages, sizeof *messages);
-    uint8_t *bytes = room(all.message_bytes, 1);
-    double least = 1e9;
-    for (int i = 0; i <= rounds; i++) {
-        double begun = now();
-        rap_nodes(text, length, 2024, RAP_SOURCE_FILE, elements, all.elements, messages, all.messages, bytes,
-                  all.message_bytes);
-        double took = now() - begun;
-        least = i && took < least ? took : least;
-    }
-    say("rap_nodes", least);
-    printf("elements   %zu of %zu bytes\n", all.elements, sizeof *elements);
-    if (all.elements)
-        time_walks(elements, all.elements);
-    if (all.elements && elements[0].end)
-        time_places(elements, all.elements);
+    uint32_t word[1];
+    uint8_t byte[1];
+    a.words_room = rap_tree_words(text, length, 2024, RAP_SOURCE_FILE, word, 0, byte, 0);
+    a.nodes_room = rap_nodes(text, length, 2024, RAP_SOURCE_FILE, element, 0, message, 0, byte, 0);
+    a.words = room(a.words_room.steps, sizeof *a.words);
+    a.words_bytes = room(a.words_room.message_bytes, 1);
+    a.elements = room(a.nodes_room.elements, sizeof *a.elements);
+    a.messages = room(a.nodes_room.messages, sizeof *a.messages);
+    a.nodes_bytes = room(a.nodes_room.message_bytes, 1);
+    return a;
+}
+
+/* The time of each call, the calls by turns. */
+static void time_calls(struct arrays *a)
+{
+    static void (*const calls[])(struct arrays *) = {call_counts, call_words, call_nodes};
+    static const char *const names[] = {"counts", "words", "rap_nodes"};
+    double least[] = {1e9, 1e9, 1e9};
+    for (int i = 0; i <= rounds; i++)
+        for (int call = 0; call < 3; call++) {
+            double begun = now();
+            calls[call](a);
+            double took = now() - begun;
+            least[call] = i && took < least[call] ? took : least[call];
+        }
+    for (int call = 0; call < 3; call++)
+        say(names[call], least[call]);
 }
 
 static void *run(void *none)
 {
-    say("counts", time_counts());
-    say("words", time_words());
-    time_nodes();
+    struct arrays a = make_arrays();
+    size_t count = a.nodes_room.elements;
+    time_calls(&a);
+    printf("elements   %zu of %zu bytes\n", count, sizeof *a.elements);
+    if (count)
+        time_walks(a.elements, count);
+    if (count && a.elements[0].end)
+        time_places(a.elements, count);
     return none;
 }
 
@@ -198,6 +207,9 @@ int main(int count, char **arguments)
         fputs("usage: times FILE ROUNDS\n", stderr);
         return 2;
     }
+    mallopt(M_ARENA_MAX, 1);
+    mallopt(M_MMAP_MAX, 0);
+    mallopt(M_TRIM_THRESHOLD, INT_MAX);
     fseek(file, 0, SEEK_END);
     length = (size_t)ftell(file);
     rewind(file);
