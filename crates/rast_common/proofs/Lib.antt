@@ -1,4 +1,5 @@
 pub mod Reported
 mod Blocks
+mod Ending
 mod Spelling
 pub mod Fronts

@@ -1,7 +1,10 @@
+pub mod Fault
 pub mod Indented
 pub mod Message
 pub mod Program
 pub mod Quote
+pub mod Ran
+pub mod Shown
 pub mod Spelled
 pub mod Words
 pub mod Written

@@ -71,7 +71,7 @@ impl Block {
 
     /// Adds bytes for which there is room.
     #[inline(always)]
-    fn add(&mut self, bytes: &[u8])
+    pub(crate) fn add(&mut self, bytes: &[u8])
         requires { length self.old + length bytes.now ≤ 8192 }
         ensures { self.new ≡ self.old ++ bytes.now }
     {

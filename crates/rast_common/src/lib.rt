@@ -1,4 +1,5 @@
-//! What the programs share: quoted texts, messages, indented texts, words, and how a fault is reported.
+//! What the programs share: quoted texts, messages, indented texts, words, how a program over a file starts, how it shows
+//! a page, and how it reports a fault.
 #![tactic(auto)]
 
 mod block;
@@ -7,4 +8,6 @@ pub mod indented;
 pub mod message;
 pub mod program;
 pub mod quote;
+pub mod show;
+mod start;
 pub mod words;
