@@ -1,6 +1,5 @@
 -- What is listed of a text, and whether a message is listed.
-use Rattle.std.specs.Prelude.{◌≡◌, ◌≢◌, ◌⊎◌, ◌↔◌, ◌<◌, ◌≤◌, IsTrue, IsFalse, ℕ, List, [], ◌++◌, Option, None, length, codes, string_bytes}
-use Rattle.std.specs.Io.KnownBytes.{Appends}
+use Rattle.std.specs.Prelude.{◌≡◌, ◌≢◌, ◌⊎◌, ◌↔◌, ◌<◌, ◌≤◌, if◌then◌else◌, IsTrue, IsFalse, ℕ, List, [], ◌++◌, Option, None, Result, length, codes, string_bytes}
 use Rattle.rap_base.specs.declared.edition.Edition.{Edition}
 use Rattle.rap_frontmatter.specs.Refusal.{Refusal, IsRefused}
 use Rattle.rap_frontmatter.specs.Script.{Script, IsScript}
@@ -10,7 +9,10 @@ use Rattle.rap_lexed.specs.SingleToken.{IsOneToken, IsNotOneToken}
 use Rattle.rast_lex.specs.Listed.{lines, token_line, message_lines, record_line, single_line, script_lines, refusal_lines}
 use Rattle.rap_lexed.specs.declared.lexed_str.LexFault.{LexFault}
 use Rattle.rap_lexed.specs.declared.lexed_str.LexFault.TheVariants.{TextTooLong, NoMemory}
-use Rattle.rast_lex.specs.Words.{cannot_write, fault_line}
+use Rattle.rast_common.specs.Ran.{IsMade}
+use Rattle.rast_common.specs.Shown.{Shown}
+use Rattle.rast_common.specs.declared.fault.Fault.{Fault}
+use Rattle.rast_common.specs.declared.fault.Fault.TheVariants as common
 use Rattle.rast_lex.specs.declared.listing.Page.{Page}
 use Rattle.rast_lex.specs.declared.run.Listing.{Listing}
 use Rattle.rast_lex.specs.declared.run.Listing.TheVariants.{Tokens, Input, Single, Script as script}
@@ -75,28 +77,15 @@ abbrev pub Comes : List ℕ → Listing → LexFault → Type 0
 Comes text listing TextTooLong = (4294967295 < length text) × (listing ≢ script)
 Comes text listing NoMemory = (length text ≤ 4294967295) ⊎ (listing ≡ script)
 
--- A fault occurred before the first write: the output is as it was, and the line reports the fault.
-pub record StopsBefore {W : Type 0} (text : List ℕ) (listing : Listing) (before after : W) (line : List ℕ) : Type 0 where
-  pub fault : LexFault
-  pub comes : Comes text listing fault
-  pub untouched : after ≡ before
-  pub is : line ≡ fault_line fault
+-- what is reported about a fault
+abbrev pub fault_of : LexFault → Fault
+fault_of TextTooLong = common.TextTooLong
+fault_of NoMemory = common.NoMemory
 
--- All lines were there, and the output refused a write.
-pub record StopsWriting (text : List ℕ) (edition : Edition) (listing : Listing) (line : List ℕ) : Type 0 where
-  pub page : Page
-  pub lists : Lists text edition listing page
-  pub is : line ≡ cannot_write
+-- what is made of a text
+abbrev pub Makes : List ℕ → Edition → Listing → Result Page Fault → Type 0
+Makes text edition listing made = IsMade (Lists text edition listing) (Comes text listing) fault_of made
 
--- a fault stopped the program, and the condition holds for the line that reports it
-abbrev pub IfStops : {W : Type 0} → List ℕ → Edition → Listing → W → W → (List ℕ → Type 0) → Type 0
-IfStops text edition listing before after Asked =
-    (line : List ℕ) × (StopsBefore text listing before after line ⊎ StopsWriting text edition listing line) × Asked line
-
--- It was written, and the status is 0 if no message is listed, and 1 otherwise.
-pub record Shows (text : List ℕ) (edition : Edition) (listing : Listing) (status : ℕ) (before after : Option (List ℕ)) : Type 0 where
-  pub page : Page
-  pub lists : Lists text edition listing page
-  pub written : Appends before after (string_bytes page.lines)
-  pub quiet : status ≡ 0 → IsFalse page.has_message
-  pub loud : status ≡ 1 → IsTrue page.has_message
+-- what is shown of a page: its lines, and the status 1 if a message is listed, and 0 otherwise
+abbrev pub shown_of : Page → Shown
+shown_of page = record { bytes = string_bytes page.lines; status = if page.has_message then 1 else 0 }

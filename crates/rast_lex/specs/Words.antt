@@ -1,10 +1,8 @@
--- The program's words: what is requested, and what is reported about a fault.
+-- The program's words: what is requested.
 use Rattle.std.specs.Prelude.{◌≡◌, ◌≢◌, ◌⊎◌, List, [], ◌∷◌, ℕ, Option, None, Some, Result, MatchResult, codes, length}
 use Rattle.std.specs.Option.{option_to_list}
 use Rattle.rap_base.specs.Edition.{year_text}
 use Rattle.rap_base.specs.declared.edition.Edition.{Edition}
-use Rattle.rap_lexed.specs.declared.lexed_str.LexFault.{LexFault}
-use Rattle.rap_lexed.specs.declared.lexed_str.LexFault.TheVariants.{TextTooLong, NoMemory}
 use Rattle.rast_common.specs.Words.{IsNoEdition, IsWord, IsWrongAfter, edition_place}
 use Rattle.rast_common.specs.declared.words.WrongWords.{WrongWords}
 use Rattle.rast_common.specs.declared.words.WrongWords.TheVariants.{Number, Word}
@@ -63,12 +61,3 @@ IsRefused words (Word word place) =
 -- words are read as the request that they are the words of, or refused
 abbrev pub IsRead : List (List ℕ) → Result Request WrongWords → Type 0
 IsRead words result = MatchResult result (λ request. words ≡ words_of request) (IsRefused words)
-
--- what is reported when the output refuses a write
-abbrev pub cannot_write : List ℕ
-cannot_write = codes "rast_lex: cannot write\n"
-
--- what is reported about a fault
-abbrev pub fault_line : LexFault → List ℕ
-fault_line TextTooLong = codes "rast_lex: text too long\n"
-fault_line NoMemory = codes "rast_lex: no memory\n"

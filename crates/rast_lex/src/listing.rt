@@ -1,7 +1,7 @@
 //! What is listed of a text.
 ghost use Rattle.std.specs.Prelude.{◌≡◌, ◌≢◌, ◌<◌, ◌↔◌, ◌++◌, IfOk, OnOk, Err, length, string_bytes};
 ghost use Rattle.rast_lex.specs.Listed.{lines, places, token_line, message_lines, record_line, part_line, script_lines, shown_spans, refusal_lines};
-ghost use Rattle.rast_lex.specs.Page.{ListsTokens, ListsInput, ListsSingle, ListsScript};
+ghost use Rattle.rast_lex.specs.Page.{ListsTokens, ListsInput, ListsSingle, ListsScript, shown_of};
 
 use rap_base::edition::Edition;
 use rap_events::input::Input;
@@ -9,14 +9,29 @@ use rap_frontmatter::frontmatter::{FrontmatterError, ScriptFault, ScriptSource, 
 use rap_lexed::lexed_str::{LexFault, LexedStr};
 use rast_common::message::push_message;
 use rast_common::quote::push_quoted;
+use rast_common::show::Show;
 use std::alloc::{AllocError, Global};
 use std::fmt::Write as _;
+use std::io;
 
 /// The lines that are listed, and whether one of them is a message.
 #[derive(Drop)]
 pub struct Page {
     pub lines: String,
     pub has_message: bool,
+}
+
+/// The lines are written. The status is 0 where no message is listed, and 1 where there is one.
+impl Show for Page {
+    ghost shown = { shown_of };
+
+    fn write<W: io::Write>(&self, out: &mut W) -> io::Result<()> {
+        out.write_all(self.lines.as_bytes())
+    }
+
+    fn status(&self) -> u8 {
+        if self.has_message { 1 } else { 0 }
+    }
 }
 
 /// Adds two places with two dots between them.

@@ -1,13 +1,14 @@
 //! All that the program does once its file is read.
-ghost use Rattle.std.specs.Prelude.{◌≤◌, ◌<◌, ◌≡◌, IfErr, IfOk, OnOk, string_bytes};
-ghost use Rattle.std.specs.Io.KnownBytes.{Appends};
-ghost use Rattle.rast_lex.specs.Page.{Comes, IfStops, Lists, Shows};
-ghost use Rattle.rast_lex.specs.Words.{IsAsked, fault_line};
+ghost use Rattle.std.specs.Prelude.{◌≡◌, IfErr, IfOk, codes};
+ghost use Rattle.rast_common.specs.Ran.{Ran};
+ghost use Rattle.rast_lex.specs.Page.{Comes, Lists, Makes, fault_of, shown_of};
+ghost use Rattle.rast_lex.specs.Words.{IsAsked};
 
 use crate::listing::{Page, list_input, list_script, list_single, list_tokens};
 use rap_base::edition::Edition;
 use rap_lexed::lexed_str::LexFault;
-use rast_common::fault::report;
+use rast_common::fault::Fault;
+use rast_common::show::finish;
 use std::alloc::Global;
 use std::io;
 use std::str::FromStr;
@@ -58,22 +59,24 @@ fn list(alloc: Global, edition: Edition, listing: Listing, text: &str) -> Result
     }
 }
 
-/// The message of a fault on the error stream.
-fn fault_message(fault: &LexFault) -> &'static str
-    ensures { result.now ≡ fault_line fault.now }
+/// What is reported about a fault.
+fn fault_of(fault: LexFault) -> Fault
+    ensures { result ≡ fault_of fault }
 {
     match fault {
-        LexFault::TextTooLong => "rast_lex: text too long\n",
-        LexFault::NoMemory => "rast_lex: no memory\n",
+        LexFault::TextTooLong => Fault::TextTooLong,
+        LexFault::NoMemory => Fault::NoMemory,
     }
 }
 
-/// Writes the lines.
-fn write_lines<W: io::Write>(out: &mut W, page: &Page) -> io::Result<()>
-    ensures { OnOk result (Appends (W.contents out.old) (W.contents out.new) (string_bytes page.now.lines)) }
+/// Lists what the arguments name; an error is what is reported.
+fn make(alloc: Global, edition: Edition, listing: Listing, text: &str) -> Result<Page, Fault>
+    ensures { Makes text.now edition listing result }
 {
-    out.write_all(page.lines.as_bytes())?;
-    out.flush()
+    match list(alloc, edition, listing, text) {
+        Ok(page) => Ok(page),
+        Err(fault) => Err(fault_of(fault)),
+    }
 }
 
 /// Lists what the arguments name.
@@ -89,17 +92,9 @@ pub fn run<W: io::Write, V: io::Write>(
     out: &mut W,
     err: &mut V,
 ) -> io::Result<u8>
-    ensures status { IfOk result (λ status. status ≤ 2) }
-    ensures shown { IfOk result (λ status. status < 2 → Shows text.now edition listing status (W.contents out.old) (W.contents out.new) × (err.new ≡ err.old)) }
-    ensures reported { IfOk result (λ status. status ≡ 2 → IfStops text.now edition listing out.old out.new (Appends (V.contents err.old) (V.contents err.new))) }
-    ensures unreported { IfErr result (λ _. IfStops text.now edition listing out.old out.new (λ _. Unit {0})) }
+    ensures { Ran (codes "rast_lex") shown_of (Makes text.now edition listing)
+        W.contents out.old out.new V.contents err.old err.new result }
 {
-    let page = match list(alloc, edition, listing, text) {
-        Ok(page) => page,
-        Err(fault) => return report(err, fault_message(&fault)),
-    };
-    let Ok(()) = write_lines(out, &page) else {
-        return report(err, "rast_lex: cannot write\n");
-    };
-    if page.has_message { Ok(1) } else { Ok(0) }
+    let made = make(alloc, edition, listing, text);
+    finish("rast_lex", made, out, err)
 }
