@@ -1,5 +1,5 @@
 -- All lines of a text, and when there are none.
-use Rattle.std.specs.Prelude.{◌≡◌, ℕ, ◌<◌, ◌≤◌, List, ◌++◌, length, string_bytes}
+use Rattle.std.specs.Prelude.{◌≡◌, ◌==◌, ℕ, ◌<◌, ◌≤◌, if◌then◌else◌, List, ◌++◌, length, string_bytes, string_len}
 use Rattle.rap_base.specs.declared.edition.Edition.{Edition}
 use Rattle.rap_events.specs.Forest.{Forest}
 use Rattle.ra_ap_parser.specs.Headline.{HasTooManyTokens, IsParsed}
@@ -9,6 +9,9 @@ use Rattle.rap_lexed.specs.Trivia.{with_trivia}
 use Rattle.ra_ap_parser.specs.declared.entry_point.TopEntryPoint.{TopEntryPoint}
 use Rattle.ra_ap_parser.specs.declared.whole_text.TextFault.{TextFault}
 use Rattle.ra_ap_parser.specs.declared.whole_text.TextFault.TheVariants.{TextTooLong, TooManyTokens, NoMemory, Refused}
+use Rattle.rast_common.specs.Shown.{Shown}
+use Rattle.rast_common.specs.declared.fault.Fault.{Fault}
+use Rattle.rast_common.specs.declared.fault.Fault.TheVariants as common
 use Rattle.rast_print.specs.Printed.{printed, reported, lexer_reported}
 use Rattle.rast_print.specs.declared.printer.Printer.{Printer}
 
@@ -30,3 +33,17 @@ Comes text edition TextTooLong = 4294967295 < length text
 Comes text edition TooManyTokens = HasTooManyTokens text edition
 Comes text edition NoMemory = (length text ≤ 4294967295) × ¬ HasTooManyTokens text edition
 Comes text edition (Refused e) = (length text ≤ 4294967295) × ¬ HasTooManyTokens text edition
+
+-- what is reported about a fault
+abbrev pub fault_of : {R : Type 0} → TextFault R → Fault
+fault_of TextTooLong = common.TextTooLong
+fault_of TooManyTokens = common.TooManyTokens
+fault_of NoMemory = common.NoMemory
+fault_of (Refused e) = common.NoMemory
+
+-- what is shown: the tree's lines and then those of the messages, and the status 0 if there is no message, else 1
+abbrev pub shown_of : Printer → Shown
+shown_of printer = record {
+  bytes = printer.tree ++ string_bytes printer.messages;
+  status = if string_len printer.messages == 0 then 0 else 1;
+}

@@ -1,10 +1,11 @@
 //! A whole text, from its bytes to the lines of its tree.
-ghost use Rattle.std.specs.Prelude.{IfErr, IfOk};
-ghost use Rattle.rast_print.specs.Shown.{Comes, IsPrinted};
+ghost use Rattle.std.specs.Prelude.{◌≡◌, IfErr, IfOk};
+ghost use Rattle.rast_print.specs.Shown.{Comes, IsPrinted, fault_of};
 
 use crate::printer::Printer;
 use crate::room::roomy_lines;
 use ra_ap_parser::{Edition, NoMemory, ParsedTokens, TextFault, TopEntryPoint, parse_tokens};
+use rast_common::fault::Fault;
 use std::alloc::Global;
 
 /// The lines of the text's tree and of its messages, the tree's messages before the lexer's. Room for most of the tree's
@@ -30,4 +31,15 @@ pub fn print_text(
         return Err(TextFault::NoMemory);
     };
     Ok(printer)
+}
+
+/// What is reported about a fault; a program's own sink refuses a step only when out of memory.
+pub fn fault_of<R>(fault: &TextFault<R>) -> Fault
+    ensures { result ≡ fault_of fault.now }
+{
+    match fault {
+        TextFault::TextTooLong => Fault::TextTooLong,
+        TextFault::TooManyTokens => Fault::TooManyTokens,
+        TextFault::NoMemory | TextFault::Refused(_) => Fault::NoMemory,
+    }
 }

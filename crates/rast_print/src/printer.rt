@@ -7,7 +7,9 @@ ghost use Rattle.rast_common.specs.Quote.{quoted};
 use ra_ap_parser::{NoMemory, StrSink, StrStep, SyntaxKind};
 use rast_common::indented::IndentedText;
 use rast_common::message::push_message;
+use rast_common::show::Show;
 use std::alloc::{AllocError, Global};
+use std::io;
 
 /// A tree's lines, indented by two spaces for each open node, and its messages, a line each.
 #[derive(Drop)]
@@ -100,5 +102,22 @@ impl StrSink for Printer {
             StrStep::Error { msg, pos } => push_message(&mut self.messages, pos, msg)?,
         }
         Ok(())
+    }
+}
+
+/// The tree's lines are written and then the messages'. The status is 0 where there is no message, and 1 where there is
+/// one.
+impl Show for Printer {
+    ghost use Rattle.rast_print.specs.Shown.{shown_of};
+
+    ghost shown = { shown_of };
+
+    fn write<W: io::Write>(&self, out: &mut W) -> io::Result<()> {
+        self.tree.write_to(out)?;
+        out.write_all(self.messages.as_bytes())
+    }
+
+    fn status(&self) -> u8 {
+        if self.messages.is_empty() { 0 } else { 1 }
     }
 }
