@@ -1,35 +1,38 @@
 //! All that the program does once its file is read.
-ghost use Rattle.std.specs.Prelude.{◌≡◌, ◌⊎◌, IfErr, IfOk, OnOk};
-ghost use Rattle.std.specs.Io.KnownBytes.{Appends};
-ghost use Rattle.rast_steps.specs.Page.{IfStops, Shows};
-ghost use Rattle.rast_steps.specs.Words.{fault_line};
+ghost use Rattle.std.specs.Prelude.{◌≡◌, codes};
+ghost use Rattle.rast_common.specs.Ran.{Ran};
+ghost use Rattle.rast_common.specs.Shown.{plain};
+ghost use Rattle.rast_steps.specs.Page.{Makes, fault_of};
 
 use ra_ap_parser::Edition;
-use rast_common::fault::report;
+use rast_common::fault::Fault;
 use rast_common::indented::IndentedText;
+use rast_common::show::finish;
 use rast_print::asked::Asked;
 use rast_print::listing::{ListFault, list};
 use std::alloc::Global;
 use std::io;
 
-/// The message of a fault on the error stream.
-fn fault_message(fault: ListFault) -> &'static str
-    ensures { result.now ≡ fault_line fault }
+/// What is reported about a fault.
+fn fault_of(fault: ListFault) -> Fault
+    ensures { result ≡ fault_of fault }
 {
     match fault {
-        ListFault::TextTooLong => "rast_steps: text too long\n",
-        ListFault::TooManyTokens => "rast_steps: too many tokens\n",
-        ListFault::NoBrace => "rast_steps: the text does not begin with `{`\n",
-        ListFault::NoMemory => "rast_steps: no memory\n",
+        ListFault::TextTooLong => Fault::TextTooLong,
+        ListFault::TooManyTokens => Fault::TooManyTokens,
+        ListFault::NoBrace => Fault::NoBrace,
+        ListFault::NoMemory => Fault::NoMemory,
     }
 }
 
-/// Writes the lines.
-fn write_lines<W: io::Write>(out: &mut W, lines: &IndentedText) -> io::Result<()>
-    ensures { OnOk result (Appends (W.contents out.old) (W.contents out.new) lines.now) }
+/// Lists what the arguments name; an error is what is reported.
+fn make(alloc: Global, edition: Edition, asked: Asked, text: &str) -> Result<IndentedText, Fault>
+    ensures { Makes text.now edition asked result }
 {
-    lines.write_to(out)?;
-    out.flush()
+    match list(alloc, edition, asked, text) {
+        Ok(lines) => Ok(lines),
+        Err(fault) => Err(fault_of(fault)),
+    }
 }
 
 /// Lists what the arguments name.
@@ -44,17 +47,9 @@ pub fn run<W: io::Write, V: io::Write>(
     out: &mut W,
     err: &mut V,
 ) -> io::Result<u8>
-    ensures status { IfOk result (λ status. (status ≡ 0) ⊎ (status ≡ 2)) }
-    ensures shown { IfOk result (λ status. status ≡ 0 → Shows text.now edition asked (W.contents out.old) (W.contents out.new) × (err.new ≡ err.old)) }
-    ensures reported { IfOk result (λ status. status ≡ 2 → IfStops text.now edition asked out.old out.new (Appends (V.contents err.old) (V.contents err.new))) }
-    ensures unreported { IfErr result (λ _. IfStops text.now edition asked out.old out.new (λ _. Unit {0})) }
+    ensures { Ran (codes "rast_steps") plain (Makes text.now edition asked)
+        W.contents out.old out.new V.contents err.old err.new result }
 {
-    let lines = match list(alloc, edition, asked, text) {
-        Ok(lines) => lines,
-        Err(fault) => return report(err, fault_message(fault)),
-    };
-    let Ok(()) = write_lines(out, &lines) else {
-        return report(err, "rast_steps: cannot write\n");
-    };
-    Ok(0)
+    let made = make(alloc, edition, asked, text);
+    finish("rast_steps", made, out, err)
 }
