@@ -3,7 +3,8 @@ ghost use Rattle.std.specs.Prelude.{◌≡◌, IfErr, IfOk, IsTrue, length};
 ghost use Rattle.rap_events.specs.Forest.{Forest};
 ghost use Rattle.rap_grammar_table.specs.Tops.{MakesRow, file_row};
 ghost use Rattle.ra_ap_parser.specs.Headline.{IsParsed};
-ghost use Rattle.rast_core.specs.Page.{Answers, Comes};
+ghost use Rattle.rast_print.specs.Shown.{Comes};
+ghost use Rattle.rast_core.specs.Page.{Answers, shown_of};
 
 use crate::listing::list_outside;
 use ra_ap_parser::{
@@ -11,7 +12,31 @@ use ra_ap_parser::{
 };
 use rap_grammar_rows::check::derives_file;
 use rap_grammar_search::search::find_derivation;
+use rast_common::show::Show;
 use std::alloc::Global;
+use std::io;
+
+/// The lines of what is outside of the core grammar.
+#[derive(Drop)]
+pub struct Lines {
+    pub text: String,
+}
+
+/// The status of a text of which something is outside.
+const OUTSIDE: u8 = 1;
+
+/// The lines are written, and the status is 1.
+impl Show for Lines {
+    ghost shown = { shown_of };
+
+    fn write<W: io::Write>(&self, out: &mut W) -> io::Result<()> {
+        out.write_all(self.text.as_bytes())
+    }
+
+    fn status(&self) -> u8 {
+        OUTSIDE
+    }
+}
 
 /// What is told of a text.
 #[derive(Drop)]
@@ -19,7 +44,7 @@ pub enum Answer {
     /// It is in the core grammar.
     Derived,
     /// No derivation is found, or the lexer has a message; the lines of what is outside.
-    Outside(String),
+    Outside(Lines),
 }
 
 /// Whether a derivation of the whole input is found along its tree.
@@ -47,8 +72,8 @@ fn answer_parsed(
     if found && messages == 0 {
         return Ok(Answer::Derived);
     }
-    let lines = list_outside(alloc, &parsed.lexed, &input, &parsed.output, !found)?;
-    Ok(Answer::Outside(lines))
+    let text = list_outside(alloc, &parsed.lexed, &input, &parsed.output, !found)?;
+    Ok(Answer::Outside(Lines { text }))
 }
 
 /// Tells whether a text is in the core grammar.

@@ -1,32 +1,25 @@
 //! All that the program does once its file is read.
-ghost use Rattle.std.specs.Prelude.{◌≡◌, ◌≤◌, IfErr, IfOk, OnOk, string_bytes};
-ghost use Rattle.std.specs.Io.KnownBytes.{Appends};
-ghost use Rattle.rast_core.specs.Page.{IfStops, IsDerived, Shows};
-ghost use Rattle.rast_core.specs.Words.{fault_line};
+ghost use Rattle.std.specs.Prelude.{◌⊎◌, MatchOption, codes};
+ghost use Rattle.rast_common.specs.Ran.{Ran};
+ghost use Rattle.rast_core.specs.Page.{Accepts, IsDerived, Makes, shown_of};
 
-use crate::answer::{Answer, answer_text};
-use ra_ap_parser::{Edition, TextFault};
-use rast_common::fault::report;
+use crate::answer::{Answer, Lines, answer_text};
+use ra_ap_parser::Edition;
+use rast_common::fault::Fault;
+use rast_common::show::finish;
+use rast_print::print_text::fault_of;
 use std::alloc::Global;
 use std::io;
 
-/// The message of a fault on the error stream.
-fn fault_message<R>(fault: &TextFault<R>) -> &'static str
-    ensures { result.now ≡ fault_line fault.now }
+/// The lines of what is outside; an error is what is reported. `None` if the text is in the core grammar.
+fn make(alloc: Global, edition: Edition, text: &str) -> Option<Result<Lines, Fault>>
+    ensures { MatchOption result (IsDerived text.now edition) (Makes text.now edition) }
 {
-    match fault {
-        TextFault::TextTooLong => "rast_core: text too long\n",
-        TextFault::TooManyTokens => "rast_core: too many tokens\n",
-        TextFault::NoMemory | TextFault::Refused(_) => "rast_core: no memory\n",
+    match answer_text(alloc, edition, text) {
+        Ok(Answer::Derived) => None,
+        Ok(Answer::Outside(lines)) => Some(Ok(lines)),
+        Err(fault) => Some(Err(fault_of(&fault))),
     }
-}
-
-/// Writes the lines.
-fn write_lines<W: io::Write>(out: &mut W, lines: &String) -> io::Result<()>
-    ensures { OnOk result (Appends (W.contents out.old) (W.contents out.new) (string_bytes lines.now)) }
-{
-    out.write_all(lines.as_bytes())?;
-    out.flush()
 }
 
 /// Tells whether a text is in the core grammar.
@@ -42,22 +35,12 @@ pub fn run<W: io::Write, V: io::Write>(
     out: &mut W,
     err: &mut V,
 ) -> io::Result<u8>
-    ensures status { IfOk result (λ status. status ≤ 2) }
-    ensures derived { IfOk result (λ status. status ≡ 0 → IsDerived text.now edition × (out.new ≡ out.old) × (err.new ≡ err.old)) }
-    ensures shown { IfOk result (λ status. status ≡ 1 → Shows text.now edition (W.contents out.old) (W.contents out.new) × (err.new ≡ err.old)) }
-    ensures reported { IfOk result (λ status. status ≡ 2 → IfStops text.now edition out.old out.new (Appends (V.contents err.old) (V.contents err.new))) }
-    ensures unreported { IfErr result (λ _. IfStops text.now edition out.old out.new (λ _. Unit {0})) }
+    ensures { Accepts text.now edition out.old out.new err.old err.new result
+        ⊎ Ran (codes "rast_core") shown_of (Makes text.now edition)
+        W.contents out.old out.new V.contents err.old err.new result }
 {
-    let answer = match answer_text(alloc, edition, text) {
-        Ok(answer) => answer,
-        Err(fault) => return report(err, fault_message(&fault)),
-    };
-    let lines = match answer {
-        Answer::Derived => return Ok(0),
-        Answer::Outside(lines) => lines,
-    };
-    let Ok(()) = write_lines(out, &lines) else {
-        return report(err, "rast_core: cannot write\n");
-    };
-    Ok(1)
+    match make(alloc, edition, text) {
+        None => Ok(0),
+        Some(made) => finish("rast_core", made, out, err),
+    }
 }
