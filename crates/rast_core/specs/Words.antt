@@ -1,5 +1,5 @@
 -- The program's words: how a command line is read.
-use Rattle.std.specs.Prelude.{◌≡◌, ◌≢◌, List, [], ◌∷◌, ℕ, Result, MatchResult, codes, length}
+use Rattle.std.specs.Prelude.{◌≡◌, ◌≢◌, List, [], ◌∷◌, ℕ, Result, MatchResult, length}
 use Rattle.rap_base.specs.Edition.{year_text}
 use Rattle.rast_common.specs.Words.{IsNoEdition, IsWrongAfter, edition_place}
 use Rattle.rast_common.specs.declared.words.WrongWords.{WrongWords}

@@ -9,12 +9,10 @@ mod run;
 mod tail;
 
 use head::HEAD;
-use rast_common::fault::{exit_code, report};
+use rast_common::over_file;
 use rast_common::program::Program;
-use rast_common::words::{read_common, read_words};
 use request::read_request;
 use run::{Frame, run};
-use std::fs;
 use std::process::ExitCode;
 use tail::TAIL;
 
@@ -40,37 +38,23 @@ The status is 0 without messages, 1 with messages, and 2 after a fault, whose re
 };
 
 fn main(rt: HostRuntime) -> ExitCode {
-    let (mut out, mut err) = (rt.stdout(), rt.stderr());
-    let Ok(words) = read_words(&rt) else {
-        return exit_code(report(&mut err, PROGRAM.usage));
-    };
-    if let Some(common) = read_common(words.as_slice()) {
-        return exit_code(PROGRAM.tell(common, &mut out, &mut err));
-    }
-    let request = match read_request(words.as_slice()) {
-        Ok(request) => request,
-        Err(wrong) => return exit_code(PROGRAM.refuse(rt.alloc(), &wrong, &mut err)),
-    };
-    let text = match fs::read_to_string(&rt, request.file) {
-        Ok(text) => text,
-        Err(error) => {
-            let kind = error.kind();
-            return exit_code(PROGRAM.report_unread(rt.alloc(), request.file, kind, &mut err));
-        }
-    };
     let frame = Frame {
         head: HEAD,
         tail: TAIL,
     };
-    let status = run(
-        rt.alloc(),
-        request.edition,
-        request.entry,
-        &frame,
-        request.file,
-        text.as_str(),
-        &mut out,
-        &mut err,
-    );
-    exit_code(status)
+    over_file!(
+        rt,
+        PROGRAM,
+        read_request,
+        |request, text, out, err| run(
+            rt.alloc(),
+            request.edition,
+            request.entry,
+            &frame,
+            request.file,
+            text.as_str(),
+            &mut out,
+            &mut err,
+        )
+    )
 }

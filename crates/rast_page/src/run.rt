@@ -1,16 +1,18 @@
 //! All that the program does once its file is read.
-ghost use Rattle.std.specs.Prelude.{◌≡◌, ◌≤◌, ◌<◌, ◌++◌, IfErr, IfOk, OnOk, chars, string_bytes};
+ghost use Rattle.std.specs.Prelude.{◌≡◌, ◌++◌, IfErr, IfOk, OnOk, chars, codes, string_bytes};
 ghost use Rattle.std.specs.Io.KnownBytes.{Appends};
+ghost use Rattle.rast_common.specs.Ran.{Ran};
 ghost use Rattle.rast_print.specs.Shown.{Comes};
 ghost use Rattle.rast_page.specs.Json.{json_text};
-ghost use Rattle.rast_page.specs.Page.{data_of, framed};
-ghost use Rattle.rast_page.specs.Ran.{IfStops, IsPage, Shows};
-ghost use Rattle.rast_page.specs.Words.{fault_line};
+ghost use Rattle.rast_page.specs.Page.{data_of, shown_of};
+ghost use Rattle.rast_page.specs.Ran.{IsPage, Makes};
 
 use crate::json::push_json;
 use crate::rows::Rows;
 use ra_ap_parser::{Edition, NoMemory, TextFault, TopEntryPoint, parse_text};
-use rast_common::fault::report;
+use rast_common::fault::Fault;
+use rast_common::show::{Show, finish};
+use rast_print::print_text::fault_of;
 use std::alloc::{AllocError, Global};
 use std::io;
 
@@ -21,9 +23,10 @@ pub struct Frame {
     pub tail: &'static str,
 }
 
-/// What a page holds of a file: its name as a JSON string, and its rows.
+/// A page: what is the same for all files, and of a file its name as a JSON string, and its rows.
 #[derive(Drop)]
 struct Page {
+    frame: Frame,
     name: String,
     rows: Rows,
 }
@@ -37,15 +40,17 @@ fn name_of_file(alloc: Global, file: &str) -> Result<String, AllocError>
     Ok(name)
 }
 
-/// The file's name, and the rows of the text's tree and of its messages, the tree's messages before the lexer's.
+/// The page of the file: its name, and the rows of the text's tree and of its messages, the tree's messages before the
+/// lexer's.
 fn page_of(
     alloc: Global,
     edition: Edition,
     entry: TopEntryPoint,
+    frame: &Frame,
     file: &str,
     text: &str,
 ) -> Result<Page, TextFault<NoMemory>>
-    ensures page { IfOk result (IsPage file.now text.now edition entry) }
+    ensures page { IfOk result (IsPage frame.now file.now text.now edition entry) }
     ensures fault { IfErr result (Comes text.now edition) }
 {
     let mut rows = Rows::new(alloc);
@@ -56,17 +61,27 @@ fn page_of(
     let Ok(name) = name_of_file(alloc, file) else {
         return Err(TextFault::NoMemory);
     };
-    Ok(Page { name, rows })
+    Ok(Page {
+        frame: *frame,
+        name,
+        rows,
+    })
 }
 
-/// The message of a fault on the error stream.
-fn fault_message<R>(fault: &TextFault<R>) -> &'static str
-    ensures { result.now ≡ fault_line fault.now }
+/// The same; an error is what is reported.
+fn make(
+    alloc: Global,
+    edition: Edition,
+    entry: TopEntryPoint,
+    frame: &Frame,
+    file: &str,
+    text: &str,
+) -> Result<Page, Fault>
+    ensures { Makes frame.now file.now text.now edition entry result }
 {
-    match fault {
-        TextFault::TextTooLong => "rast_page: text too long\n",
-        TextFault::TooManyTokens => "rast_page: too many tokens\n",
-        TextFault::NoMemory | TextFault::Refused(_) => "rast_page: no memory\n",
+    match page_of(alloc, edition, entry, frame, file, text) {
+        Ok(page) => Ok(page),
+        Err(fault) => Err(fault_of(&fault)),
     }
 }
 
@@ -89,14 +104,19 @@ fn write_data<W: io::Write>(out: &mut W, page: &Page) -> io::Result<()>
     Ok(())
 }
 
-/// Writes the page.
-fn write_page<W: io::Write>(out: &mut W, frame: &Frame, page: &Page) -> io::Result<()>
-    ensures { OnOk result (Appends (W.contents out.old) (W.contents out.new) (framed frame.now (data_of page.now))) }
-{
-    out.write_all(frame.head.as_bytes())?;
-    write_data(out, page)?;
-    out.write_all(frame.tail.as_bytes())?;
-    out.flush()
+/// The status is 0 where there is no message, and 1 where there is one.
+impl Show for Page {
+    ghost shown = { shown_of };
+
+    fn write<W: io::Write>(&self, out: &mut W) -> io::Result<()> {
+        out.write_all(self.frame.head.as_bytes())?;
+        write_data(out, self)?;
+        out.write_all(self.frame.tail.as_bytes())
+    }
+
+    fn status(&self) -> u8 {
+        if self.rows.messages.is_empty() { 0 } else { 1 }
+    }
 }
 
 /// Parses the text, and writes the page that shows it: the frame's head, the file's name, the tree's steps and the
@@ -115,24 +135,9 @@ pub fn run<W: io::Write, V: io::Write>(
     out: &mut W,
     err: &mut V,
 ) -> io::Result<u8>
-    ensures status { IfOk result (λ status. status ≤ 2) }
-    ensures shown { IfOk result (λ status. status < 2
-        → Shows frame.now file.now text.now edition entry status (W.contents out.old) (W.contents out.new)
-        × (err.new ≡ err.old)) }
-    ensures reported { IfOk result (λ status. status ≡ 2
-        → IfStops file.now text.now edition entry out.old out.new (Appends (V.contents err.old) (V.contents err.new))) }
-    ensures unreported { IfErr result (λ _. IfStops file.now text.now edition entry out.old out.new (λ _. Unit {0})) }
+    ensures { Ran (codes "rast_page") shown_of (Makes frame.now file.now text.now edition entry)
+        W.contents out.old out.new V.contents err.old err.new result }
 {
-    let page = match page_of(alloc, edition, entry, file, text) {
-        Ok(page) => page,
-        Err(fault) => return report(err, fault_message(&fault)),
-    };
-    let Ok(()) = write_page(out, frame, &page) else {
-        return report(err, "rast_page: cannot write\n");
-    };
-    if page.rows.messages.is_empty() {
-        Ok(0)
-    } else {
-        Ok(1)
-    }
+    let made = make(alloc, edition, entry, frame, file, text);
+    finish("rast_page", made, out, err)
 }
