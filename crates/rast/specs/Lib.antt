@@ -1,4 +1,3 @@
 pub mod Pending
 pub mod Ran
 pub mod RangedLines
-pub mod Words

@@ -1,28 +1,17 @@
 //! All that the program does once its file is read.
-ghost use Rattle.std.specs.Prelude.{◌≡◌, ◌≤◌, ◌<◌, ◌++◌, IfErr, IfOk, OnOk, string_bytes};
-ghost use Rattle.std.specs.Io.KnownBytes.{Appends};
-ghost use Rattle.rast_print.specs.Shown.{Comes};
-ghost use Rattle.rast.specs.Ran.{ArePrinted, IfStops, Shows};
-ghost use Rattle.rast.specs.Words.{fault_line};
+ghost use Rattle.std.specs.Prelude.{IfErr, IfOk, codes};
+ghost use Rattle.rast_common.specs.Ran.{Ran};
+ghost use Rattle.rast_print.specs.Shown.{Comes, shown_of};
+ghost use Rattle.rast.specs.Ran.{ArePrinted, Makes};
 
 use crate::ranges::print_ranges;
 use ra_ap_parser::{Edition, NoMemory, TextFault, TopEntryPoint};
-use rast_common::fault::report;
-use rast_print::print_text::print_text;
+use rast_common::fault::Fault;
+use rast_common::show::finish;
+use rast_print::print_text::{fault_of, print_text};
 use rast_print::printer::Printer;
 use std::alloc::Global;
 use std::io;
-
-/// The message of a fault on the error stream.
-fn fault_message<R>(fault: &TextFault<R>) -> &'static str
-    ensures { result.now ≡ fault_line fault.now }
-{
-    match fault {
-        TextFault::TextTooLong => "rast: text too long\n",
-        TextFault::TooManyTokens => "rast: too many tokens\n",
-        TextFault::NoMemory | TextFault::Refused(_) => "rast: no memory\n",
-    }
-}
 
 /// The lines of the text's tree, with the places of its nodes and leaves if requested, and of its messages.
 fn print(
@@ -42,13 +31,20 @@ fn print(
     }
 }
 
-/// Writes the tree's lines and then the messages'.
-fn write_lines<W: io::Write>(out: &mut W, printer: &Printer) -> io::Result<()>
-    ensures { OnOk result (Appends (W.contents out.old) (W.contents out.new) (printer.now.tree ++ string_bytes printer.now.messages)) }
+/// The same; an error is what is reported.
+fn make(
+    alloc: Global,
+    edition: Edition,
+    entry: TopEntryPoint,
+    text: &str,
+    ranges: bool,
+) -> Result<Printer, Fault>
+    ensures { Makes ranges text.now edition entry result }
 {
-    printer.tree.write_to(out)?;
-    out.write_all(printer.messages.as_bytes())?;
-    out.flush()
+    match print(alloc, edition, entry, text, ranges) {
+        Ok(printer) => Ok(printer),
+        Err(fault) => Err(fault_of(&fault)),
+    }
 }
 
 /// Parses the text and prints its tree, with the place of each node and leaf where `ranges` says so, and its messages,
@@ -66,21 +62,9 @@ pub fn run<W: io::Write, V: io::Write>(
     out: &mut W,
     err: &mut V,
 ) -> io::Result<u8>
-    ensures status { IfOk result (λ status. status ≤ 2) }
-    ensures shown { IfOk result (λ status. status < 2 → Shows ranges text.now edition entry status (W.contents out.old) (W.contents out.new) × (err.new ≡ err.old)) }
-    ensures reported { IfOk result (λ status. status ≡ 2 → IfStops ranges text.now edition entry out.old out.new (Appends (V.contents err.old) (V.contents err.new))) }
-    ensures unreported { IfErr result (λ _. IfStops ranges text.now edition entry out.old out.new (λ _. Unit {0})) }
+    ensures { Ran (codes "rast") shown_of (Makes ranges text.now edition entry)
+        W.contents out.old out.new V.contents err.old err.new result }
 {
-    let printer = match print(alloc, edition, entry, text, ranges) {
-        Ok(printer) => printer,
-        Err(fault) => return report(err, fault_message(&fault)),
-    };
-    if write_lines(out, &printer).is_err() {
-        return report(err, "rast: cannot write\n");
-    }
-    if printer.messages.is_empty() {
-        Ok(0)
-    } else {
-        Ok(1)
-    }
+    let made = make(alloc, edition, entry, text, ranges);
+    finish("rast", made, out, err)
 }
