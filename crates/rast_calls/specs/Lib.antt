@@ -4,4 +4,3 @@ pub mod Held
 pub mod Listed
 pub mod Made
 pub mod Page
-pub mod Words

@@ -1,31 +1,27 @@
--- What is written for calls, and when nothing is written.
-use Rattle.std.specs.Prelude.{◌≡◌, ◌⊎◌, ℕ, List, Option}
-use Rattle.std.specs.Io.KnownBytes.{Appends}
+-- What is made for calls.
+use Rattle.std.specs.Prelude.{ℕ, List, Result, String, string_bytes}
+use Rattle.std.specs.declared.alloc.Global.{Global}
+use Rattle.rast_common.specs.Ran.{IsMade}
+use Rattle.rast_common.specs.Shown.{Shown, plain}
+use Rattle.rast_common.specs.declared.fault.Fault.{Fault}
+use Rattle.rast_common.specs.declared.fault.Fault.TheVariants as common
 use Rattle.rast_calls.specs.Listed.{Comes, Lists}
-use Rattle.rast_calls.specs.Words.{cannot_write, fault_line}
 use Rattle.rast_calls.specs.declared.asked.Asked.{Asked}
 use Rattle.rast_calls.specs.declared.pushed.CallFault.{CallFault}
+use Rattle.rast_calls.specs.declared.pushed.CallFault.TheVariants.{TextTooLong, TooManyTokens, NoBrace, NoToken, NoMemory}
 
--- A fault occurred before the first write: the output is as it was, and the line reports the fault.
-pub record StopsBefore {W : Type 0} (text : List ℕ) (asked : Asked) (before after : W) (line : List ℕ) : Type 0 where
-  pub fault : CallFault
-  pub comes : Comes text asked fault
-  pub untouched : after ≡ before
-  pub is : line ≡ fault_line fault
+-- what is reported about a fault
+abbrev pub fault_of : CallFault → Fault
+fault_of TextTooLong = common.TextTooLong
+fault_of TooManyTokens = common.TooManyTokens
+fault_of NoBrace = common.NoBraceInInput
+fault_of NoToken = common.NoToken
+fault_of NoMemory = common.NoMemory
 
--- All lines were there, and the output refused a write.
-pub record StopsWriting (text : List ℕ) (asked : Asked) (line : List ℕ) : Type 0 where
-  pub lines : List ℕ
-  pub lists : Lists text asked lines
-  pub is : line ≡ cannot_write
+-- the lines of what the calls return, or a fault in their place
+abbrev pub Makes : List ℕ → Asked → Result (String Global) Fault → Type 0
+Makes text asked made = IsMade (λ lines. Lists text asked (string_bytes lines)) (Comes text asked) fault_of made
 
--- a fault stopped the program, and the condition holds for the line that reports it
-abbrev pub IfStops : {W : Type 0} → List ℕ → Asked → W → W → (List ℕ → Type 0) → Type 0
-IfStops text asked before after Holds =
-    (line : List ℕ) × (StopsBefore text asked before after line ⊎ StopsWriting text asked line) × Holds line
-
--- The lines were written.
-pub record Shows (text : List ℕ) (asked : Asked) (before after : Option (List ℕ)) : Type 0 where
-  pub lines : List ℕ
-  pub lists : Lists text asked lines
-  pub written : Appends before after lines
+-- what is shown of lines
+abbrev pub shown_of : String Global → Shown
+shown_of lines = plain (string_bytes lines)

@@ -1,35 +1,37 @@
 //! The work of the program once its arguments and its file are read.
-ghost use Rattle.std.specs.Prelude.{◌≡◌, ◌⊎◌, IfErr, IfOk, OnOk, string_bytes};
-ghost use Rattle.std.specs.Io.KnownBytes.{Appends};
-ghost use Rattle.rast_calls.specs.Page.{IfStops, Shows};
-ghost use Rattle.rast_calls.specs.Words.{fault_line};
+ghost use Rattle.std.specs.Prelude.{◌≡◌, codes};
+ghost use Rattle.rast_common.specs.Ran.{Ran};
+ghost use Rattle.rast_calls.specs.Page.{Makes, fault_of, shown_of};
 
 use crate::asked::Asked;
 use crate::listing::list;
 use crate::pushed::CallFault;
-use rast_common::fault::report;
+use rast_common::fault::Fault;
+use rast_common::show::finish;
 use std::alloc::Global;
 use std::io;
 
-/// The message of a fault on the error stream.
-fn fault_message(fault: CallFault) -> &'static str
-    ensures { result.now ≡ fault_line fault }
+/// What is reported about a fault.
+fn fault_of(fault: CallFault) -> Fault
+    ensures { result ≡ fault_of fault }
 {
     match fault {
-        CallFault::TextTooLong => "rast_calls: text too long\n",
-        CallFault::TooManyTokens => "rast_calls: too many tokens\n",
-        CallFault::NoBrace => "rast_calls: the input does not begin with `{`\n",
-        CallFault::NoToken => "rast_calls: not a token's kind\n",
-        CallFault::NoMemory => "rast_calls: no memory\n",
+        CallFault::TextTooLong => Fault::TextTooLong,
+        CallFault::TooManyTokens => Fault::TooManyTokens,
+        CallFault::NoBrace => Fault::NoBraceInInput,
+        CallFault::NoToken => Fault::NoToken,
+        CallFault::NoMemory => Fault::NoMemory,
     }
 }
 
-/// Writes the lines.
-fn write_lines<W: io::Write>(out: &mut W, lines: &str) -> io::Result<()>
-    ensures { OnOk result (Appends (W.contents out.old) (W.contents out.new) lines.now) }
+/// Makes the calls, and lists what they return; an error is what is reported.
+fn make(alloc: Global, asked: &Asked, text: &str) -> Result<String, Fault>
+    ensures { Makes text.now asked.now result }
 {
-    out.write_all(lines.as_bytes())?;
-    out.flush()
+    match list(alloc, asked, text) {
+        Ok(lines) => Ok(lines),
+        Err(fault) => Err(fault_of(fault)),
+    }
 }
 
 /// Makes the calls that the arguments name, and writes their results.
@@ -43,17 +45,9 @@ pub fn run<W: io::Write, V: io::Write>(
     out: &mut W,
     err: &mut V,
 ) -> io::Result<u8>
-    ensures status { IfOk result (λ status. (status ≡ 0) ⊎ (status ≡ 2)) }
-    ensures shown { IfOk result (λ status. status ≡ 0 → Shows text.now asked.now (W.contents out.old) (W.contents out.new) × (err.new ≡ err.old)) }
-    ensures reported { IfOk result (λ status. status ≡ 2 → IfStops text.now asked.now out.old out.new (Appends (V.contents err.old) (V.contents err.new))) }
-    ensures unreported { IfErr result (λ _. IfStops text.now asked.now out.old out.new (λ _. Unit {0})) }
+    ensures { Ran (codes "rast_calls") shown_of (Makes text.now asked.now)
+        W.contents out.old out.new V.contents err.old err.new result }
 {
-    let lines = match list(alloc, asked, text) {
-        Ok(lines) => lines,
-        Err(fault) => return report(err, fault_message(fault)),
-    };
-    let Ok(()) = write_lines(out, lines.as_str()) else {
-        return report(err, "rast_calls: cannot write\n");
-    };
-    Ok(0)
+    let made = make(alloc, asked, text);
+    finish("rast_calls", made, out, err)
 }
