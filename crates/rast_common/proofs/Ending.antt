@@ -1,5 +1,5 @@
 -- How a program ends.
-use Rattle.std.proofs.Common.{◌≡◌, ◌<◌, ◌≤◌, ℕ, List, Option, Result, Ok, Err, IfOk, OnErr, OnOk, refl, sym, subst, arith}
+use Rattle.std.proofs.Common.{◌≡◌, ◌<◌, ℕ, List, Option, Result, Ok, Err, IfOk, OnErr, OnOk, refl, sym, subst, arith}
 use Rattle.std.specs.Io.KnownBytes.{Appends}
 use Rattle.rast_common.specs.Fault.{fault_line}
 use Rattle.rast_common.specs.Ran.{Ends, IfStops, IsShown}

@@ -1,4 +1,3 @@
-pub mod Reported
 mod Blocks
 mod Ending
 mod Spelling
