@@ -1,7 +1,7 @@
 //! Tables of texts with their trees and messages.
 //!
 //! A line `@ ENTRY EDITION` says how the texts below it are read. Each text is between `«` and `»`; after it
-//! is its tree, on any number of lines, and each message in a line of its own after a bar, with its place, a
+//! is its tree, on any number of lines, and each message in a line of its own after a bar, with its place in bytes, a
 //! further line of a message after two bars. Text after `# ` is a comment.
 use crate::notation::{spelled_out, with_line_feeds};
 use ra_ap_parser::{Edition, TopEntryPoint};
