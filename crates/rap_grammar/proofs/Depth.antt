@@ -1,5 +1,5 @@
 -- What a rule does with so many rules inside one another, it does where there may be more.
-use Rattle.std.proofs.Common.{◌≡◌, ℕ, suc, ◌<◌, ◌≤◌, true, Option, Some, None, Result, Ok, Err}
+use Rattle.std.proofs.Common.{◌≡◌, ℕ, suc, ◌<◌, ◌≤◌, true, Option, None, Result, Ok, Err}
 use Rattle.std.specs.Prelude.{IfOk}
 use Rattle.rap_events.specs.State.{State, state, next}
 use Rattle.rap_events.specs.declared.parser.CompletedMarker.{CompletedMarker}
@@ -14,13 +14,11 @@ use Rattle.rap_grammar_scripts.specs.Knot.{script_of}
 use Rattle.rap_grammar_scripts.specs.declared.arguments.Restrictions.{Restrictions}
 use Rattle.rap_grammar_scripts.specs.declared.rule.Rule.{Rule}
 use Rattle.rap_grammar_scripts.specs.declared.rule.Rule.TheVariants as knot
-use Rattle.rap_grammar_scripts.specs.Script.{Script, Outcome, something, Runs}
+use Rattle.rap_grammar_scripts.specs.Script.{Script, Outcome, nothing, something, block, again, Runs}
 use Rattle.rap_grammar_scripts.specs.Stand.{Stand, stand, spot_at}
-use Rattle.rap_grammar_scripts.specs.ThroughKnot.{expr, unrestricted}
-use Rattle.rap_grammar_scripts.specs.Words.{of_expr, of_option}
-use Rattle.rap_grammar.specs.Part.{Goes, part_of}
+use Rattle.rap_grammar_scripts.specs.Words.{of_expr}
+use Rattle.rap_grammar.specs.Part.{Goes, part_of, option_of}
 use Rattle.rap_grammar_scripts.specs.declared.arguments.BlockLike.{BlockLike}
-use Rattle.rap_grammar_scripts.specs.declared.arguments.BlockLike.TheVariants as like
 use Rattle.rap_grammar_frame.specs.Rules.{Answered, Post}
 use Rattle.rap_grammar_facts.proofs.Promised.{took_generic_arg}
 
@@ -49,15 +47,7 @@ answers_so n m c p q v h l = answers c l h
 pub ends_run : {n : ℕ} {s : Script Rule} {p q : Stand} {v : Outcome} → Ends n s p q v → Runs script_of s (spot_at p) (spot_at q) v
 ends_run {n = n} {s = s} {p = p} {q = q} {v = v} d = runs n s p q v d.run
 
-expr_runs : {n : ℕ} {p q : Stand} (e : Option (CompletedMarker × BlockLike)) →
-    Answers n (knot.ExprBp unrestricted 1) p q (of_expr e) →
-    Runs script_of expr (spot_at p) (spot_at q) (of_option e)
-unfolding expr
-expr_runs None h = ends_run (obeys h gives)
-expr_runs (Some (m, like.Block)) h = ends_run (obeys h gives)
-expr_runs (Some (m, like.NotBlock)) h = ends_run (obeys h gives)
-
--- a parser goes along a rule's script, along a rule alone, and along any script that it follows
+-- a parser goes along a rule's script, along a rule alone or as an option, and along any script that it follows
 pub own_goes : {n : ℕ} {c : Rule} {v : Outcome} {old new : State} → Obeys (suc n) c v old new → Goes (script_of c) old new
 own_goes {n = n} {c = c} {v = v} {old = old} {new = new} d =
     record { outcome = v; follows = record { run = runs n (script_of c) (stand old) (stand new) v d.run } }
@@ -66,9 +56,12 @@ pub part_goes : {n : ℕ} {c : Rule} {v : Outcome} {old new : State} → Obeys (
 unfolding part_of
 part_goes d = record { outcome = something; follows = record { run = ends_run (obeys d gives) } }
 
-pub expr_goes : {n : ℕ} {old new : State} (e : Option (CompletedMarker × BlockLike)) →
-    Obeys n (knot.ExprBp unrestricted 1) (of_expr e) old new → Goes expr old new
-expr_goes e d = record { outcome = of_option e; follows = record { run = expr_runs e d } }
+pub option_goes : {n : ℕ} {c : Rule} {v : Outcome} {old new : State} → Obeys (suc n) c v old new → Goes (option_of c) old new
+unfolding option_of
+option_goes {v = nothing} d = record { outcome = nothing; follows = record { run = ends_run (obeys d gives) } }
+option_goes {v = something} d = record { outcome = something; follows = record { run = ends_run (obeys d gives) } }
+option_goes {v = block} d = record { outcome = something; follows = record { run = ends_run (obeys d gives) } }
+option_goes {v = again a b} d = record { outcome = something; follows = record { run = ends_run (obeys d gives) } }
 
 pub goes : {n : ℕ} {s : Script Rule} {v : Outcome} {old new : State} → Does n s v old new → Goes s old new
 goes {v = v} d = record { outcome = v; follows = does_follow d }

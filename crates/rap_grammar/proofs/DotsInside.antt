@@ -23,7 +23,7 @@ use Rattle.rap_grammar_core.specs.Dots.{dots_inside}
 use Rattle.rap_grammar.specs.Part.{IsPrefixOf}
 
 -- what is computed of a script that leaves none
-abbrev LeavesNone : Script Rule → Type 0
+abbrev pub LeavesNone : Script Rule → Type 0
 LeavesNone s = every leaves_inside (dot_ends s inside []) ≡ true
 
 made_inside : (s : Script Rule) → LeavesNone s → {input rest : List Record} {made : Forest} {outcome : Outcome} →

@@ -2,10 +2,12 @@ pub mod CoreItems
 pub mod Depth
 pub mod DotsInside
 pub mod Heads
+pub mod Known
 pub mod OneTree
 pub mod Outputs
 pub mod Padded
 pub mod Parts
 pub mod Prefixes
+pub mod Shapes
 pub mod Tables
 pub mod TopTree

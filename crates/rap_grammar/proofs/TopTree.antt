@@ -1,5 +1,5 @@
 -- What a top entry makes of what was parsed.
-use Rattle.std.proofs.Common.{◌≡◌, ◌≢◌, ℕ, zero, suc, ◌+◌, ◌≤◌, List, [], ◌∷◌, drop, length, length-append, Bool, true, false, None, refl, ap, sym, ◌∙◌, arith}
+use Rattle.std.proofs.Common.{◌≡◌, ◌≢◌, ℕ, zero, suc, ◌+◌, ◌≤◌, List, [], ◌∷◌, drop, length, length-append, Bool, true, false, None, refl, ap, sym, ◌∙◌, subst, arith}
 use Rattle.std.proofs.Math.Logic.{∥∥₁_map}
 use Rattle.rap_base.specs.TokenKind.{EOF, ERROR}
 use Rattle.rap_events.specs.Record.{Record, next_kind}
@@ -8,6 +8,8 @@ use Rattle.rap_events.specs.Fit.{AllFitIn}
 use Rattle.rap_events.specs.Machine.{floor, push, top}
 use Rattle.rap_events.specs.State.{State, state, next, Bumped, Abandoned, Completed, but_last}
 use Rattle.rap_events.specs.declared.parser.Parser.{Parser}
+use Rattle.rap_grammar.specs.Known.{IsKnown}
+use Rattle.rap_grammar.specs.declared.entry.Known.{Known}
 use Rattle.rap_grammar.specs.Top.{with_leaves, top_tree, kept}
 
 -- where no token comes next, none is left
@@ -25,7 +27,7 @@ pub taken : (s t : State) → Bumped s t (next s) 1 → next s ≢ EOF →
     with_leaves t.forest t.rest ≡ with_leaves s.forest s.rest
 taken s t b e = rw (b.forest, b.rest) (one_more s.forest s.rest e)
 
-none-⧺ : (f : Forest) → none ⧺ f ≡ f
+pub none-⧺ : (f : Forest) → none ⧺ f ≡ f
 none-⧺ none = refl
 none-⧺ (node before kind children) = ap (λ (f : Forest). node f kind children) (none-⧺ before)
 none-⧺ (leaf before kind width) = ap (λ (f : Forest). leaf f kind width) (none-⧺ before)
@@ -41,6 +43,11 @@ alone s t a e = a.forest ∙ rw e (none-⧺ s.forest)
 pub enclosed : (s t : State) (kind : ℕ) → Completed s t kind → s.below ≡ push floor None none →
     t.forest ≡ node none kind s.forest
 enclosed s t kind c e = let b : but_last t.forest ≡ none = cc in c.forest ∙ ap (λ (f : Forest). node f kind s.forest) b
+
+-- what is known of all there is
+pub known_alone : (k : Known) (s t : State) → Abandoned s t → s.below ≡ push floor None none → IsKnown k s.forest →
+    IsKnown k t.forest
+known_alone k s t a e h = subst (λ (f : Forest). IsKnown k f) (sym (alone s t a e)) h
 
 some_left : (f g : Forest) (rs : List Record) → next_kind rs ≢ EOF → g ≡ with_leaves f rs →
     node none ERROR g ≡ top_tree f rs
@@ -93,4 +100,4 @@ fit_in_error f g e h z =
     rw e (let y : message_count f ≡ 0 = omega (arith, ap message_count e) in ∥∥₁_map (h y) (fit_error f))
 
 -- how a parse ends
-pub ruleset closing = (left-none, alone, wrapped, all_used, length-flat-node, fit_in_error)
+pub ruleset closing = (left-none, alone, known_alone, wrapped, all_used, length-flat-node, fit_in_error)

@@ -12,12 +12,12 @@ use Rattle.rap_grammar_scripts.specs.Knot.{script_of, Follows}
 use Rattle.rap_grammar_scripts.specs.Paths.{type_path}
 use Rattle.rap_grammar_scripts.specs.declared.rule.Rule.{Rule}
 use Rattle.rap_grammar_scripts.specs.Records.{record_expr_field_list}
-use Rattle.rap_grammar_scripts.specs.Script.{Script, Outcome, Runs}
+use Rattle.rap_grammar_scripts.specs.Script.{Script, Outcome, nothing, Runs, give, rule}
 use Rattle.rap_grammar_scripts.specs.TokenTree.{token_tree}
 use Rattle.rap_grammar_scripts.specs.Traits.{assoc_item_list}
 use Rattle.rap_grammar_scripts.specs.UseItem.{use_tree_list}
 use Rattle.rap_grammar_scripts.specs.Visibility.{opt_visibility}
-use Rattle.rap_grammar_scripts.specs.Words.{recur, done}
+use Rattle.rap_grammar_scripts.specs.Words.{recur, done, if_some}
 use Rattle.rap_grammar_table.specs.Categories as table
 use Rattle.rap_grammar_table.specs.Tops.{Makes}
 use Rattle.rap_grammar.specs.Top.{IsForestOver}
@@ -126,6 +126,10 @@ pub record IsOneNode (kind : ℕ) (output : Forest) : Type 0 where
 -- the script of a rule alone, whatever it returns
 unfoldable pub part_of : Rule → Script Rule
 part_of c = recur c done
+
+-- the same of one that returns an option
+unfoldable pub option_of : Rule → Script Rule
+option_of c = rule c (λ v. if_some v done (give nothing))
 
 -- A parser went along a script, with some outcome.
 pub record Goes (s : Script Rule) (old new : State) : Type 0 where

@@ -8,16 +8,16 @@ ghost use Rattle.rap_events.specs.State.{state, next};
 ghost use Rattle.rap_base.specs.TokenKind.{EOF, ERROR};
 ghost use Rattle.rap_events.specs.Composite.{is_at};
 ghost use Rattle.rap_grammar_frame.specs.Grew.{Grew};
-ghost use Rattle.rap_grammar_frame.specs.Rules.{Pre, Parses};
+ghost use Rattle.rap_grammar_frame.specs.Rules.{Pre};
 ghost use Rattle.rap_grammar_scripts.specs.Entry as script;
 ghost use Rattle.rap_grammar_scripts.specs.Modules as modules_script;
 ghost use Rattle.rap_grammar_scripts.specs.Exec.{Executes};
 ghost use Rattle.rap_grammar_scripts.specs.Knot.{script_of};
-ghost use Rattle.rap_grammar_scripts.specs.ThroughKnot as through_knot_script;
-ghost use Rattle.rap_grammar.specs.Part.{Goes, part_of};
+ghost use Rattle.rap_grammar.specs.Known.{IsKnown, begins_node, known_by, known_of};
+ghost use Rattle.rap_grammar.specs.Part.{Goes, option_of, part_of};
 ghost use Rattle.rap_grammar.specs.Top.{top_tree, with_leaves};
 
-use crate::knot::{AllRules, Brief, run, run_brief};
+use crate::knot::{AllRules, run};
 use rap_base::T;
 use rap_base::no_memory::NoMemory;
 use rap_base::syntax_kind::SyntaxKind;
@@ -25,7 +25,7 @@ use rap_events::output::{Output, Step, wrap_in_node};
 use rap_events::parser::{Marker, Parser};
 use rap_grammar_attributes::attributes::inner_attrs;
 use rap_grammar_frame::knot::{Answer, Grammar};
-use rap_grammar_scripts::arguments::{Restrictions, Semicolon};
+use rap_grammar_scripts::arguments::Semicolon;
 use rap_grammar_scripts::rule::Rule;
 use std::alloc::Global;
 
@@ -73,29 +73,66 @@ pub fn is_one_tree(output: &Output) -> bool
     nodes == 1
 }
 
-/// Runs a rule that is an entry of its own.
-#[tactic(auto, using(crate::proofs::Depth::own_goes, crate::proofs::Depth::part_goes))]
-fn run_alone(p: &mut Parser<'_>, rule: Rule) -> Result<Answer, NoMemory>
-    requires { Pre rule (state p.old) }
-    ensures parses { IfOk result (Parses rule (state p.old) (state p.new)) }
-    ensures own { OnOk result (Goes (script_of rule) (state p.old) (state p.new)) }
-    ensures part { OnOk result (Goes (part_of rule) (state p.old) (state p.new)) }
-{
-    let answer = run(p, rule)?;
-    Ok(answer)
+/// What is known of an output before it is looked at.
+#[derive(Clone, Copy, Debug, PartialEq, Eq)]
+pub enum Known {
+    /// It is one tree: exactly one node and nothing else.
+    OneTree,
+    /// It is one tree exactly if its first step begins a node, and no `ABI`.
+    ByFirstStep,
+    /// Nothing is known.
+    Nothing,
 }
 
-/// Runs the rule of an expression as an entry of its own.
-fn expr_alone(p: &mut Parser<'_>) -> Result<(), NoMemory>
-    ensures grew { OnOk result (Grew (state p.old) (state p.new) 8) }
-    ensures script { OnOk result (Goes through_knot_script.expr (state p.old) (state p.new)) }
+/// Returns whether the first step begins a node, and no `ABI`.
+fn begins_node(output: &Output) -> bool
+    ensures { result ≡ begins_node (flat output.now) }
 {
-    let r = Restrictions {
-        forbid_structs: false,
-        prefer_stmt: false,
-    };
-    run_brief(p, Brief::Expr, r, 1)?;
+    let mut steps = output.iter();
+    match steps.next() {
+        Some(step) => match step {
+            Step::Enter { kind } => kind != SyntaxKind::ABI,
+            Step::Exit | Step::FloatSplit { .. } | Step::Token { .. } | Step::Error { .. } => false,
+        },
+        None => false,
+    }
+}
+
+/// Returns whether the output is one tree. Its steps are walked through only where nothing is known of it.
+#[tactic(auto, unfolding(crate::specs::Known::IsKnown))]
+fn is_one_tree_by(output: &Output, known: Known) -> bool
+    requires { IsKnown known output.now }
+    ensures { result ≡ one_tree output.now }
+{
+    match known {
+        Known::OneTree => true,
+        Known::ByFirstStep => begins_node(output),
+        Known::Nothing => is_one_tree(output),
+    }
+}
+
+/// Runs a rule that is an entry of its own.
+#[tactic(auto, using(crate::proofs::Depth::own_goes, crate::proofs::Depth::part_goes, crate::proofs::Depth::option_goes, crate::proofs::Known::leaves, rap_grammar_frame::proofs::Done::rule_grew))]
+fn run_alone(p: &mut Parser<'_>, rule: Rule) -> Result<(), NoMemory>
+    requires { Pre rule (state p.old) }
+    ensures grew { OnOk result (Grew (state p.old) (state p.new) 20) }
+    ensures own { OnOk result (Goes (script_of rule) (state p.old) (state p.new)) }
+    ensures part { OnOk result (Goes (part_of rule) (state p.old) (state p.new)) }
+    ensures option { OnOk result (Goes (option_of rule) (state p.old) (state p.new)) }
+    ensures leaves { OnOk result ((state p.old).forest ≡ none → IsKnown (known_of rule) (state p.new).forest) }
+{
+    run(p, rule)?;
     Ok(())
+}
+
+/// Returns what is known of an output that began with nothing, by an expression's result.
+fn known_by(answer: &Answer) -> Known
+    ensures { result ≡ known_by answer.now }
+{
+    match answer {
+        Some(_) => Known::OneTree,
+        None => Known::Nothing,
+    }
 }
 
 /// Whether no token is left.
@@ -186,12 +223,18 @@ fn take_rest(p: &mut Parser<'_>) -> Result<(), NoMemory>
 /// Ends the parse of a top entry. `m`, the only open marker, must be the one started first.
 ///
 /// If no token is left and the output is one tree, exactly one node and no other token or message, it is returned as it
-/// is. Otherwise the tokens that are left are taken one by one, and the tree is one `ERROR` over everything. The error
-/// means out of memory.
+/// is. Otherwise the tokens that are left are taken one by one, and the tree is one `ERROR` over everything. `known` must
+/// be true of what was parsed. The error means out of memory.
 #[tactic(auto, using(crate::proofs::TopTree::closing))]
-pub fn close_top(alloc: Global, mut p: Parser<'_>, m: Marker) -> Result<Output, NoMemory>
+pub fn close_top(
+    alloc: Global,
+    mut p: Parser<'_>,
+    m: Marker,
+    known: Known,
+) -> Result<Output, NoMemory>
     requires newest { (state p).marker ≡ Some m.pos.value }
     requires below { (state p).below ≡ push floor None none }
+    requires known { IsKnown known (state p).forest }
     ensures top { IfOk result (λ output. output ≡ top_tree (state p.entry).forest (state p.entry).rest) }
     ensures covers { IfOk result (λ output. covers (state p.entry).input output ≡ true) }
     ensures used { IfOk result (λ output. used output ≡ length (state p.entry).input) }
@@ -206,7 +249,7 @@ pub fn close_top(alloc: Global, mut p: Parser<'_>, m: Marker) -> Result<Output, 
     }
     m.abandon(&mut p)?;
     let output = p.process(alloc)?;
-    if is_one_tree(&output) {
+    if is_one_tree_by(&output, known) {
         return Ok(output);
     }
     let output = wrap_in_node(alloc, output, SyntaxKind::ERROR)?;

@@ -13,7 +13,7 @@ ghost use Rattle.rap_grammar_scripts.specs.Statements as statements_script;
 ghost use Rattle.rap_grammar_scripts.specs.Items as items_script;
 ghost use Rattle.rap_base.specs.Limits.{max_tokens};
 
-use super::{expr_alone, run_alone};
+use super::run_alone;
 use crate::knot::{Rules, run};
 use rap_base::no_memory::NoMemory;
 use rap_events::input::Input;
@@ -30,7 +30,7 @@ use rap_grammar_items_kinds::traits::assoc_item_list;
 use rap_grammar_items_kinds::use_item::use_tree_list;
 use rap_grammar_paths::paths::sym_path;
 use rap_grammar_paths::visibility::opt_visibility;
-use rap_grammar_scripts::arguments::Semicolon;
+use rap_grammar_scripts::arguments::{Restrictions, Semicolon};
 use rap_grammar_scripts::rule::Rule;
 use std::alloc::Global;
 
@@ -195,13 +195,18 @@ pub fn type_(alloc: Global, input: &Input) -> Result<Output, NoMemory>
 }
 
 /// An expression.
+#[tactic(auto, unfolding(rap_grammar_scripts::specs::ThroughKnot::expr, crate::specs::Part::option_of))]
 pub fn expr(alloc: Global, input: &Input) -> Result<Output, NoMemory>
     requires { length input.now ≤ max_tokens }
     ensures prefix { IfOk result (IsPrefixOver input.now) }
     ensures script { IfOk result (IsPrefixOf through_knot_script.expr input.now) }
 {
     let mut p = Parser::new(alloc, input);
-    expr_alone(&mut p)?;
+    let r = Restrictions {
+        forbid_structs: false,
+        prefer_stmt: false,
+    };
+    run_alone(&mut p, Rule::ExprBp { r, bp: 1 })?;
     let output = p.process(alloc)?;
     Ok(output)
 }

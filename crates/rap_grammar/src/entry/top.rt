@@ -8,13 +8,14 @@ ghost use Rattle.rap_grammar_scripts.specs.Modules as modules_script;
 ghost use Rattle.rap_grammar.specs.Top.{IsTreeOver, IsTopOf, IsRootOf};
 ghost use Rattle.rap_base.specs.Limits.{max_tokens};
 
-use super::{close_root, close_top, expr_alone, run_alone};
-use crate::knot::all_rules;
+use super::{Known, close_root, close_top, known_by, run_alone};
+use crate::knot::{Brief, all_rules, run_brief};
 use rap_base::no_memory::NoMemory;
 use rap_base::syntax_kind::SyntaxKind;
 use rap_events::input::Input;
 use rap_events::output::Output;
 use rap_events::parser::Parser;
+use rap_grammar_scripts::arguments::Restrictions;
 use rap_grammar_scripts::rule::Rule;
 use std::alloc::Global;
 
@@ -34,7 +35,7 @@ pub fn source_file(alloc: Global, input: &Input) -> Result<Output, NoMemory>
 }
 
 /// A pattern with its alternatives. If the input is not exactly one pattern, the tree is an `ERROR`.
-#[tactic(auto, unfolding(rap_grammar_scripts::specs::ThroughKnot::pattern, crate::specs::Part::part_of))]
+#[tactic(auto, unfolding(rap_grammar_scripts::specs::ThroughKnot::pattern, crate::specs::Part::part_of, crate::specs::Known::known_of))]
 pub fn pattern(alloc: Global, input: &Input) -> Result<Output, NoMemory>
     requires { length input.now ≤ max_tokens }
     ensures tree { IfOk result (IsTreeOver input.now) }
@@ -43,12 +44,12 @@ pub fn pattern(alloc: Global, input: &Input) -> Result<Output, NoMemory>
     let mut p = Parser::new(alloc, input);
     let m = p.start()?;
     run_alone(&mut p, Rule::Pattern)?;
-    let output = close_top(alloc, p, m)?;
+    let output = close_top(alloc, p, m, Known::ByFirstStep)?;
     Ok(output)
 }
 
 /// A type. If the input is not exactly one type, the tree is an `ERROR`.
-#[tactic(auto, unfolding(rap_grammar_scripts::specs::ThroughKnot::type_, crate::specs::Part::part_of))]
+#[tactic(auto, unfolding(rap_grammar_scripts::specs::ThroughKnot::type_, crate::specs::Part::part_of, crate::specs::Known::known_of))]
 pub fn type_(alloc: Global, input: &Input) -> Result<Output, NoMemory>
     requires { length input.now ≤ max_tokens }
     ensures tree { IfOk result (IsTreeOver input.now) }
@@ -57,7 +58,7 @@ pub fn type_(alloc: Global, input: &Input) -> Result<Output, NoMemory>
     let mut p = Parser::new(alloc, input);
     let m = p.start()?;
     run_alone(&mut p, Rule::TypeWithBoundsCond { allow_bounds: true })?;
-    let output = close_top(alloc, p, m)?;
+    let output = close_top(alloc, p, m, Known::ByFirstStep)?;
     Ok(output)
 }
 
@@ -69,13 +70,18 @@ pub fn expr(alloc: Global, input: &Input) -> Result<Output, NoMemory>
 {
     let mut p = Parser::new(alloc, input);
     let m = p.start()?;
-    expr_alone(&mut p)?;
-    let output = close_top(alloc, p, m)?;
+    let r = Restrictions {
+        forbid_structs: false,
+        prefer_stmt: false,
+    };
+    let answer = run_brief(&mut p, Brief::Expr, r, 1)?;
+    let known = known_by(&answer);
+    let output = close_top(alloc, p, m, known)?;
     Ok(output)
 }
 
 /// The contents of an attribute's brackets, as `cfg(a)` in `#[cfg(a)]`. If other tokens follow, the tree is an `ERROR`.
-#[tactic(auto, unfolding(rap_grammar_scripts::specs::ThroughKnot::meta, crate::specs::Part::part_of))]
+#[tactic(auto, unfolding(rap_grammar_scripts::specs::ThroughKnot::meta, crate::specs::Part::part_of, crate::specs::Known::known_of))]
 pub fn meta_item(alloc: Global, input: &Input) -> Result<Output, NoMemory>
     requires { length input.now ≤ max_tokens }
     ensures tree { IfOk result (IsTreeOver input.now) }
@@ -84,7 +90,7 @@ pub fn meta_item(alloc: Global, input: &Input) -> Result<Output, NoMemory>
     let mut p = Parser::new(alloc, input);
     let m = p.start()?;
     run_alone(&mut p, Rule::Meta)?;
-    let output = close_top(alloc, p, m)?;
+    let output = close_top(alloc, p, m, Known::OneTree)?;
     Ok(output)
 }
 
