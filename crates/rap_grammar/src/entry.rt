@@ -8,7 +8,7 @@ ghost use Rattle.rap_events.specs.State.{state, next};
 ghost use Rattle.rap_base.specs.TokenKind.{EOF, ERROR};
 ghost use Rattle.rap_events.specs.Composite.{is_at};
 ghost use Rattle.rap_grammar_frame.specs.Grew.{Grew};
-ghost use Rattle.rap_grammar_frame.specs.Rules.{Pre};
+ghost use Rattle.rap_grammar_frame.specs.Rules.{Pre, Parses};
 ghost use Rattle.rap_grammar_scripts.specs.Entry as script;
 ghost use Rattle.rap_grammar_scripts.specs.Modules as modules_script;
 ghost use Rattle.rap_grammar_scripts.specs.Exec.{Executes};
@@ -113,16 +113,17 @@ fn is_one_tree_by(output: &Output, known: Known) -> bool
 
 /// Runs a rule that is an entry of its own.
 #[tactic(auto, using(crate::proofs::Depth::own_goes, crate::proofs::Depth::part_goes, crate::proofs::Depth::option_goes, crate::proofs::Known::leaves, rap_grammar_frame::proofs::Done::rule_grew))]
-fn run_alone(p: &mut Parser<'_>, rule: Rule) -> Result<(), NoMemory>
+fn run_alone(p: &mut Parser<'_>, rule: Rule) -> Result<Answer, NoMemory>
     requires { Pre rule (state p.old) }
+    ensures parses { IfOk result (Parses rule (state p.old) (state p.new)) }
     ensures grew { OnOk result (Grew (state p.old) (state p.new) 20) }
     ensures own { OnOk result (Goes (script_of rule) (state p.old) (state p.new)) }
     ensures part { OnOk result (Goes (part_of rule) (state p.old) (state p.new)) }
     ensures option { OnOk result (Goes (option_of rule) (state p.old) (state p.new)) }
     ensures leaves { OnOk result ((state p.old).forest ≡ none → IsKnown (known_of rule) (state p.new).forest) }
 {
-    run(p, rule)?;
-    Ok(())
+    let answer = run(p, rule)?;
+    Ok(answer)
 }
 
 /// Returns what is known of an output that began with nothing, by an expression's result.
