@@ -10,10 +10,10 @@ ghost use Rattle.rap_grammar_table.specs.Table.{HasWay, Items, row_at};
 ghost use Rattle.rap_grammar_table.specs.Tops.{MakesRow, file_row};
 
 use crate::fact::{Claim, Fact, Goal};
-use crate::lists::{row_places, turns};
+use crate::lists::{place_starts, places, turns};
 use crate::part::{Part, part_at};
 use crate::shape::{Frame, Outcome, Shape};
-use crate::tokens::contains;
+use crate::tokens::{between, contains};
 use crate::walk::{Moves, Walk, fact_at};
 use rap_base::no_memory::NoMemory;
 use rap_events::input::Input;
@@ -45,14 +45,16 @@ fn walked(
 }
 
 /// Where the rows of a category begin, by its number. Past the last category there are none.
+#[tactic(auto, using(crate::proofs::Sets::places_is, crate::proofs::Sets::places_past))]
 fn row_starts(number: usize) -> &'static [u16]
     ensures { result.now ≡ set_in number row_places }
 {
-    if number < 129 {
-        row_places()[number]
-    } else {
-        &[]
+    if number >= 129 {
+        return &[];
     }
+    let starts = place_starts();
+    let start = usize::from(starts[number]);
+    between(places(), start, usize::from(starts[number + 1]))
 }
 
 /// Where a row of a category begins, by their numbers.

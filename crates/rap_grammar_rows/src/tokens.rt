@@ -1,5 +1,5 @@
 //! Tokens against the pieces of a row.
-ghost use Rattle.std.specs.Prelude.{◌≡◌, ◌+◌, true, IfSome, IsTrue};
+ghost use Rattle.std.specs.Prelude.{◌≡◌, ◌+◌, true, slice_range, IfSome, IsTrue};
 ghost use Rattle.rap_grammar_rows.specs.Claims.{IsPiece};
 ghost use Rattle.rap_grammar_rows.specs.Code.{sets};
 ghost use Rattle.rap_grammar_rows.specs.Decode.{set_in, words_in};
@@ -7,17 +7,34 @@ ghost use Rattle.rap_grammar_rows.specs.declared.shape.Shape.TheVariants.{Any};
 ghost use Rattle.rap_grammar_table.specs.Known.{among, within};
 ghost use Rattle.rap_grammar_table.specs.Table.{tok, word, comp};
 
-use crate::lists::sets;
+use crate::lists::{member_starts, members};
 use rap_base::syntax_kind::SyntaxKind;
 use rap_events::input::Input;
 use rap_events::parser::{Parser, width_of};
 use std::alloc::Global;
 
+/// The numbers of a list from one place to before another, as far as the list goes.
+pub fn between(numbers: &'static [u16], start: usize, end: usize) -> &'static [u16]
+    ensures { result.now ≡ slice_range numbers.now start end }
+{
+    let end = end.min(numbers.len());
+    if start >= end {
+        return &[];
+    }
+    &numbers[start..end]
+}
+
 /// Returns the set with this number. Past the last one it is empty.
+#[tactic(auto, using(crate::proofs::Sets::set_is, crate::proofs::Sets::set_past))]
 fn set(number: usize) -> &'static [u16]
     ensures { result.now ≡ set_in number sets }
 {
-    if number < 106 { sets()[number] } else { &[] }
+    if number >= 106 {
+        return &[];
+    }
+    let starts = member_starts();
+    let start = usize::from(starts[number]);
+    between(members(), start, usize::from(starts[number + 1]))
 }
 
 /// Whether a value is in the set with this number.
