@@ -82,6 +82,17 @@ merged inside c = raised c
 merged ranged c = free
 merged free c = free
 
+-- What follows is computed of a level or a flag that is computed itself: at the same ones a script is then computed
+-- once, however often it stands in others.
+abbrev pub by_level : {A : Type 0} → Level → (Level → A) → A
+by_level inside h = h inside
+by_level ranged h = h ranged
+by_level free h = h free
+
+abbrev pub by_flag : {A : Type 0} → Bool → (Bool → A) → A
+by_flag true h = h true
+by_flag false h = h false
+
 -- by an outcome a rule never ends, or at this level
 pub data Said : Type 0 where
   never : Said
@@ -106,7 +117,7 @@ called free m = free
 
 abbrev pub one_end : Outcome → Said → Level → List Bool → List (Ending Levels)
 one_end v never l ls = []
-one_end v (at_level m) l ls = ends_in v (levels (called l m) ls) ∷ []
+one_end v (at_level m) l ls = by_level (called l m) (λ k. ends_in v (levels k ls) ∷ [])
 
 abbrev pub rule_ends : Rule → Level → List Bool → List (Ending Levels)
 rule_ends c l ls =
@@ -119,19 +130,19 @@ abbrev pub dot_ends : Script Rule → Level → List Bool → List (Ending Level
 dot_ends (give v) l ls = ends_in v (levels l ls) ∷ []
 dot_ends (test h s t) l ls = join same_levels (dot_ends s l ls) (dot_ends t l ls)
 dot_ends (ends_with k s t) l ls = join same_levels (dot_ends s l ls) (dot_ends t l ls)
-dot_ends (token k s) l ls = dot_ends s (added l) ls
-dot_ends (any s) l ls = dot_ends s (added l) ls
-dot_ends (bear k s) l ls = dot_ends s (added l) ls
-dot_ends (report bytes s) l ls = dot_ends s (added l) ls
-dot_ends (report_next bytes s) l ls = dot_ends s (added l) ls
-dot_ends (skip bytes s) l ls = dot_ends s (added l) ls
-dot_ends (start s) l ls = dot_ends s inside (lowered l ∷ ls)
-dot_ends (precede s) l ls = dot_ends s free (before_last l ∷ ls)
+dot_ends (token k s) l ls = by_level (added l) (λ m. dot_ends s m ls)
+dot_ends (any s) l ls = by_level (added l) (λ m. dot_ends s m ls)
+dot_ends (bear k s) l ls = by_level (added l) (λ m. dot_ends s m ls)
+dot_ends (report bytes s) l ls = by_level (added l) (λ m. dot_ends s m ls)
+dot_ends (report_next bytes s) l ls = by_level (added l) (λ m. dot_ends s m ls)
+dot_ends (skip bytes s) l ls = by_level (added l) (λ m. dot_ends s m ls)
+dot_ends (start s) l ls = by_flag (lowered l) (λ c. dot_ends s inside (c ∷ ls))
+dot_ends (precede s) l ls = by_flag (before_last l) (λ c. dot_ends s free (c ∷ ls))
 dot_ends (finish k s) l [] = unknown ∷ []
-dot_ends (finish k s) l (c ∷ ls) = dot_ends s (raised c) ls
+dot_ends (finish k s) l (c ∷ ls) = by_level (raised c) (λ m. dot_ends s m ls)
 dot_ends (extend s) l ls = unknown ∷ []
 dot_ends (abandon s) l [] = unknown ∷ []
-dot_ends (abandon s) l (c ∷ ls) = dot_ends s (merged l c) ls
+dot_ends (abandon s) l (c ∷ ls) = by_level (merged l c) (λ m. dot_ends s m ls)
 dot_ends (split_float s t) l ls = unknown ∷ []
 dot_ends (after s h) l ls =
     gather same_levels (λ v. elim [ levels m ms ↦ dot_ends (h v) m ms ]) (dot_ends s l ls)

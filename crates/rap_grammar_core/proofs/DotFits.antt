@@ -8,8 +8,8 @@ use Rattle.rap_grammar_scripts.specs.declared.rule.Rule.{Rule}
 use Rattle.rap_grammar_scripts.specs.Test.{Test, holds}
 use Rattle.rap_grammar_scripts.specs.Script.{Script, Outcome, nothing, something, block, again, give, test, ends_with, token, any, bear, report, report_next, skip, start, precede, finish, extend, abandon, split_float, after, rule, loop}
 use Rattle.rap_grammar_core.proofs.Ends.{same_flag}
-use Rattle.rap_grammar_core.proofs.Endings.{Ending, gather, flagged, every, Decides, Then, Turned, joined_left, joined_right, gathered, settled, of_flags}
-use Rattle.rap_grammar_core.proofs.DotEnds.{Level, inside, ranged, free, same_level, within, Levels, levels, same_lower, same_levels, as_good, added, lowered, raised, before_last, extended, merged, Said, never, at_level, said, called, one_end, dot_ends}
+use Rattle.rap_grammar_core.proofs.Endings.{Ending, ends_in, gather, flagged, every, Decides, Then, Turned, joined_left, joined_right, gathered, settled, of_flags}
+use Rattle.rap_grammar_core.proofs.DotEnds.{Level, inside, ranged, free, same_level, within, Levels, levels, same_lower, same_levels, as_good, added, lowered, raised, before_last, extended, merged, by_level, by_flag, Said, never, at_level, said, called, one_end, dot_ends}
 
 -- what the next tokens are where the last node may end in a dot
 abbrev pub Next : Type 0
@@ -124,6 +124,25 @@ but_implies g h k i rs e = i rs (and_left (g rs) (not (h rs)) e)
 pub range_implies : Implies at_range at_range
 range_implies rs e = e
 
+-- what is computed by a level or a flag is what is computed of it
+by_level_is : {A : Type 0} (l : Level) (h : Level → A) → by_level l h ≡ h l
+by_level_is inside h = refl
+by_level_is ranged h = refl
+by_level_is free h = refl
+
+of_level : (f : Outcome → Levels → Bool) (l : Level) (h : Level → List (Ending Levels)) →
+    every f (by_level l h) ≡ true → every f (h l) ≡ true
+of_level f l h e = rw (by_level_is l h) at e
+
+of_flag : (f : Outcome → Levels → Bool) (c : Bool) (h : Bool → List (Ending Levels)) →
+    every f (by_flag c h) ≡ true → every f (h c) ≡ true
+of_flag f true h e = e
+of_flag f false h e = e
+
+one_end_is : (v : Outcome) (l m : Level) (ls : List Bool) →
+    one_end v (at_level m) l ls ≡ ends_in v (levels (called l m) ls) ∷ []
+one_end_is v l m ls = by_level_is (called l m) (λ k. ends_in v (levels k ls) ∷ [])
+
 -- what holds of the ends of what follows each of these
 abbrev Following : Type 0
 Following = Outcome → Levels → List (Ending Levels)
@@ -132,14 +151,15 @@ follows_first : (f : Outcome → Levels → Bool) (h : Following) (v : Outcome) 
     (r : List (Ending Levels)) → s ≡ at_level m → every f (gather same_levels h (one_end v s l ls ++ r)) ≡ true →
     every f (h v (levels (called l m) ls)) ≡ true
 follows_first f h v s l m ls r i e =
-    joined_left same_levels decides f (h v (levels (called l m) ls)) (gather same_levels h r) (rw i at e)
+    joined_left same_levels decides f (h v (levels (called l m) ls)) (gather same_levels h r)
+    (rw (i, one_end_is v l m ls) at e)
 
 follows_rest : (f : Outcome → Levels → Bool) (h : Following) (v : Outcome) (s : Said) (l : Level) (ls : List Bool)
     (r : List (Ending Levels)) → every f (gather same_levels h (one_end v s l ls ++ r)) ≡ true →
     every f (gather same_levels h r) ≡ true
 follows_rest f h v never l ls r e = e
 follows_rest f h v (at_level m) l ls r e =
-    joined_right same_levels f (h v (levels (called l m) ls)) (gather same_levels h r) e
+    joined_right same_levels f (h v (levels (called l m) ls)) (gather same_levels h r) (rw (one_end_is v l m ls) at e)
 
 -- the ends of a rule, with what follows them
 ruled_on : (f : Outcome → Levels → Bool) (h : Following) (c : Rule) (l : Level) (ls : List Bool) →
@@ -175,19 +195,32 @@ computed (ends_with k s t) g l ls f i e =
     fits_ends_with
     (computed s g l ls f i (joined_left same_levels decides f (dot_ends s l ls) (dot_ends t l ls) e))
     (computed t g l ls f i (joined_right same_levels f (dot_ends s l ls) (dot_ends t l ls) e))
-computed (token k s) g l ls f i e = fits_token (computed s at_range (added l) ls f range_implies e)
-computed (any s) g l ls f i e = fits_any (computed s at_range (added l) ls f range_implies e)
-computed (bear k s) g l ls f i e = fits_bear (computed s at_range (added l) ls f range_implies e)
-computed (report bytes s) g l ls f i e = fits_report (computed s at_range (added l) ls f range_implies e)
-computed (report_next bytes s) g l ls f i e = fits_report_next (computed s at_range (added l) ls f range_implies e)
-computed (skip bytes s) g l ls f i e = fits_skip (computed s at_range (added l) ls f range_implies e)
-computed (start s) g l ls f i e = fits_start (computed s at_range inside (lowered l ∷ ls) f range_implies e)
-computed (precede s) g l ls f i e = fits_precede (computed s at_range free (before_last l ∷ ls) f range_implies e)
+computed (token k s) g l ls f i e =
+    fits_token (computed s at_range (added l) ls f range_implies (of_level f (added l) (λ m. dot_ends s m ls) e))
+computed (any s) g l ls f i e =
+    fits_any (computed s at_range (added l) ls f range_implies (of_level f (added l) (λ m. dot_ends s m ls) e))
+computed (bear k s) g l ls f i e =
+    fits_bear (computed s at_range (added l) ls f range_implies (of_level f (added l) (λ m. dot_ends s m ls) e))
+computed (report bytes s) g l ls f i e =
+    fits_report (computed s at_range (added l) ls f range_implies (of_level f (added l) (λ m. dot_ends s m ls) e))
+computed (report_next bytes s) g l ls f i e =
+    fits_report_next (computed s at_range (added l) ls f range_implies (of_level f (added l) (λ m. dot_ends s m ls) e))
+computed (skip bytes s) g l ls f i e =
+    fits_skip (computed s at_range (added l) ls f range_implies (of_level f (added l) (λ m. dot_ends s m ls) e))
+computed (start s) g l ls f i e =
+    fits_start (computed s at_range inside (lowered l ∷ ls) f range_implies
+    (of_flag f (lowered l) (λ c. dot_ends s inside (c ∷ ls)) e))
+computed (precede s) g l ls f i e =
+    fits_precede (computed s at_range free (before_last l ∷ ls) f range_implies
+    (of_flag f (before_last l) (λ c. dot_ends s free (c ∷ ls)) e))
 computed (finish k s) g l [] f i e = absurd cc
-computed (finish k s) g l (c ∷ ls) f i e = fits_finish (computed s at_range (raised c) ls f range_implies e)
+computed (finish k s) g l (c ∷ ls) f i e =
+    fits_finish (computed s at_range (raised c) ls f range_implies (of_level f (raised c) (λ m. dot_ends s m ls) e))
 computed (extend s) g l ls f i e = absurd cc
 computed (abandon s) g l [] f i e = absurd cc
-computed (abandon s) g l (c ∷ ls) f i e = fits_abandon (computed s at_range (merged l c) ls f range_implies e)
+computed (abandon s) g l (c ∷ ls) f i e =
+    fits_abandon (computed s at_range (merged l c) ls f range_implies
+    (of_level f (merged l c) (λ m. dot_ends s m ls) e))
 computed (split_float s t) g l ls f i e = absurd cc
 computed (after s h) g l ls f i e =
     let on : Following = λ v. elim [ levels m ms ↦ dot_ends (h v) m ms ] in
