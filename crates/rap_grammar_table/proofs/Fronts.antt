@@ -166,23 +166,18 @@ meta_read = refl
 pub meta_front : {ks l : List Record} {y : Forest} → MakesFront Meta ks l y → MakesOf meta ks l y
 meta_front d = category_made Meta (table.follows Meta) meta meta_read refl d.0 d.1
 
--- an item before anything but a semicolon
-item_read : rows_so (any_but SEMICOLON) (item_or_macro true true) Item ≡ accepted
+-- an item before anything but a semicolon; in a file others may stand before it
+item_read : (stops : Bool) → rows_so (any_but SEMICOLON) (item_or_macro stops true) Item ≡ accepted
 unfolding scripts
-item_read = refl
+item_read stops = refl
 
 pub item_front : {ks l : List Record} {y : Forest} → MakesBefore (any_but SEMICOLON) Item ks l y →
     MakesOf (item_or_macro true true) ks l y
-item_front d = by_rows_made Item (any_but SEMICOLON) (item_or_macro true true) item_read refl d.0 d.1
-
--- in a file, where others may stand before it
-item_in_file_read : rows_so (any_but SEMICOLON) (item_or_macro false true) Item ≡ accepted
-unfolding scripts
-item_in_file_read = refl
+item_front d = by_rows_made Item (any_but SEMICOLON) (item_or_macro true true) (item_read true) refl d.0 d.1
 
 pub item_adds : {ks l : List Record} {y : Forest} → MakesBefore (any_but SEMICOLON) Item ks l y →
     AddsOf (item_or_macro false true) ks l y
-item_adds d = by_rows_add Item (any_but SEMICOLON) (item_or_macro false true) item_in_file_read refl d.0 d.1
+item_adds d = by_rows_add Item (any_but SEMICOLON) (item_or_macro false true) (item_read false) refl d.0 d.1
 
 pub item_seen : {ks l : List Record} {y : Forest} → MakesBefore (any_but SEMICOLON) Item ks l y →
     Sees (table.firsts Item) (ks ++ l)

@@ -1,5 +1,5 @@
 -- The rows of items are read: computed.
-use Rattle.std.proofs.Common.{◌≡◌, true, false, refl}
+use Rattle.std.proofs.Common.{◌≡◌, Bool, true, false, refl}
 use Rattle.rap_grammar_scripts.specs.declared.rule.Rule.{Rule}
 use Rattle.rap_grammar_scripts.specs.declared.rule.Rule.TheVariants as knot
 use Rattle.rap_grammar_table.specs.Refusal.{accepted}
@@ -10,28 +10,20 @@ use Rattle.rap_grammar_table.specs.Ways.{some_outcome}
 use Rattle.rap_grammar_table.proofs.Entries.{is_read, EntryChecked}
 use Rattle.rap_grammar_table.proofs.Scripts.{scripts}
 
-items_read_tt : all_accepted (is_read table item_entry (knot.ItemOrMacro true true)) item_entry.rows ≡ accepted
+items_in_extern : (stops : Bool) →
+    all_accepted (is_read table item_entry (knot.ItemOrMacro stops true)) item_entry.rows ≡ accepted
 unfolding scripts
-items_read_tt = refl
+items_in_extern stops = refl
 
-items_read_tf : all_accepted (is_read table item_entry (knot.ItemOrMacro true false)) item_entry.rows ≡ accepted
+items_elsewhere : (stops : Bool) →
+    all_accepted (is_read table item_entry (knot.ItemOrMacro stops false)) item_entry.rows ≡ accepted
 unfolding scripts
-items_read_tf = refl
-
-items_read_ft : all_accepted (is_read table item_entry (knot.ItemOrMacro false true)) item_entry.rows ≡ accepted
-unfolding scripts
-items_read_ft = refl
-
-items_read_ff : all_accepted (is_read table item_entry (knot.ItemOrMacro false false)) item_entry.rows ≡ accepted
-unfolding scripts
-items_read_ff = refl
+items_elsewhere stops = refl
 
 items_read_by : (r : Rule) → some_outcome (item_entry.read_by r) ≡ true →
     all_accepted (is_read table item_entry r) item_entry.rows ≡ accepted
-items_read_by (knot.ItemOrMacro true true) h = items_read_tt
-items_read_by (knot.ItemOrMacro true false) h = items_read_tf
-items_read_by (knot.ItemOrMacro false true) h = items_read_ft
-items_read_by (knot.ItemOrMacro false false) h = items_read_ff
+items_read_by (knot.ItemOrMacro stops true) h = items_in_extern stops
+items_read_by (knot.ItemOrMacro stops false) h = items_elsewhere stops
 items_read_by r h = absurd cc
 
 pub items : EntryChecked table item_entry

@@ -1,18 +1,22 @@
 -- The rows of blocks and statements are read: computed.
-use Rattle.std.proofs.Common.{◌≡◌, true, false, refl, [], ◌∷◌}
+use Rattle.std.proofs.Common.{◌≡◌, true, false, List, [], ◌∷◌, drop, refl}
+use Rattle.rap_grammar_scripts.specs.Knot.{script_of}
 use Rattle.rap_grammar_scripts.specs.Script.{something, block}
+use Rattle.rap_grammar_scripts.specs.Statements.{stmt}
 use Rattle.rap_grammar_scripts.specs.declared.arguments.Semicolon.{Semicolon}
 use Rattle.rap_grammar_scripts.specs.declared.arguments.Semicolon.TheVariants as semicolon
 use Rattle.rap_grammar_scripts.specs.declared.rule.Rule.{Rule}
 use Rattle.rap_grammar_scripts.specs.declared.rule.Rule.TheVariants as knot
 use Rattle.rap_grammar_table.specs.Notation.{Entry}
-use Rattle.rap_grammar_table.specs.Refusal.{accepted}
+use Rattle.rap_grammar_table.specs.Refusal.{Verdict, accepted}
 use Rattle.rap_grammar_table.specs.Rows.{table}
-use Rattle.rap_grammar_table.specs.StmtRows.{arm_entry, block_entry, block_stmt_entry, empty_stmt_entry, ending_block_entry, if_entry, last_arm_entry, macro_tail_entry, macro_tail_read_by, stmt_block_entry, stmt_entry, stmt_expr_entry, stmt_list_entry, stmt_read_by, tail_entry, tail_read_by, with_block_entry}
-use Rattle.rap_grammar_table.specs.Walk.{all_accepted}
+use Rattle.rap_grammar_table.specs.StmtRows.{arm_entry, block_entry, block_stmt_entry, empty_stmt_entry, ending_block_entry, if_entry, last_arm_entry, macro_tail_entry, macro_tail_read_by, stmt_block_entry, stmt_entry, stmt_expr_entry, stmt_follows, stmt_list_entry, stmt_read_by, tail_entry, tail_read_by, with_block_entry}
+use Rattle.rap_grammar_table.specs.Table.{Items}
+use Rattle.rap_grammar_table.specs.Walk.{all_accepted, reads_row}
 use Rattle.rap_grammar_table.specs.Ways.{some_outcome}
 use Rattle.rap_grammar_table.proofs.Entries.{is_read, EntryChecked}
 use Rattle.rap_grammar_table.proofs.ExprRows.{expr_rule, read_by_expr}
+use Rattle.rap_grammar_table.proofs.Operands.{in_parts, taking}
 use Rattle.rap_grammar_table.proofs.Scripts.{scripts}
 use Rattle.rap_grammar_table.proofs.Tests.{tests}
 
@@ -100,13 +104,34 @@ in_macro : (e : Entry) → InMacro e → (r : Rule) → some_outcome (macro_tail
 in_macro e a (knot.Stmt semicolon.Optional) h = a
 in_macro e a r h = absurd cc
 
-stmts_in_block : InBlock stmt_entry
+-- Among the statements the items, which stand behind sixteen rows, are read alike in both.
+abbrev stmt_rows : List Items
+stmt_rows = stmt_entry.rows
+
+abbrev reads_stmt : Semicolon → Items → Verdict
+reads_stmt semi row = reads_row table stmt_follows (stmt semi) (something ∷ []) row
+
+stmt_items_read : (semi : Semicolon) → all_accepted (reads_stmt semi) (drop 16 stmt_rows) ≡ accepted
 unfolding scripts tests
-stmts_in_block = refl
+stmt_items_read semi = refl
+
+in_block_read : all_accepted (reads_stmt semicolon.Required) (taking 16 stmt_rows) ≡ accepted
+unfolding scripts tests
+in_block_read = refl
+
+in_macro_read : all_accepted (reads_stmt semicolon.Optional) (taking 16 stmt_rows) ≡ accepted
+unfolding scripts tests
+in_macro_read = refl
+
+stmts_in_block : InBlock stmt_entry
+unfolding script_of
+stmts_in_block =
+    in_parts (reads_stmt semicolon.Required) 16 stmt_rows in_block_read (stmt_items_read semicolon.Required)
 
 stmts_in_macro : InMacro stmt_entry
-unfolding scripts tests
-stmts_in_macro = refl
+unfolding script_of
+stmts_in_macro =
+    in_parts (reads_stmt semicolon.Optional) 16 stmt_rows in_macro_read (stmt_items_read semicolon.Optional)
 
 pub stmts : EntryChecked table stmt_entry
 stmts =
