@@ -1,5 +1,4 @@
 -- Written by crates/rap_grammar_rows/rows from the table of the core grammar: an edit here is lost.
--- x
 -- The rows of the core grammar as numbers: Decode.antt says what they mean.
 use Rattle.std.specs.Prelude.{ℕ, List, [], ◌∷◌}
 
