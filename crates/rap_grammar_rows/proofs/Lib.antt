@@ -1,3 +1,4 @@
+pub mod Apart
 pub mod Coming
 pub mod Content
 pub mod Excluded

@@ -1,12 +1,13 @@
-//! The rows of the core grammar as numbers, and a check that a derivation along them is one.
+//! The rows of the core grammar as numbers, a check that a derivation along them is one, and a search for one.
 #![tactic(auto)]
 
 pub mod check;
 pub mod fact;
-pub mod guard;
+mod guard;
 mod lists;
 mod numbers;
-pub mod part;
+mod part;
+pub mod search;
 pub mod shape;
-pub mod tokens;
+mod tokens;
 mod walk;

@@ -7,9 +7,9 @@ use rap_events::output::{Output, wrap_in_node};
 use rap_events::parser::Parser;
 use rap_grammar_rows::check::derives_file;
 use rap_grammar_rows::fact::Claim;
-use rap_grammar_search::element::elements_of;
-use rap_grammar_search::outside::{Outside, find_outside};
-use rap_grammar_search::search::find_derivation;
+use rap_grammar_rows::search::element::elements_of;
+use rap_grammar_rows::search::find_derivation;
+use rap_grammar_rows::search::outside::{Outside, find_outside};
 use std::alloc::Global;
 
 // The claims of a file with one module that has no body.

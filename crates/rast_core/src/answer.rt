@@ -11,7 +11,7 @@ use ra_ap_parser::{
     Edition, Input, NoMemory, Output, ParsedTokens, TextFault, TopEntryPoint, parse_tokens,
 };
 use rap_grammar_rows::check::derives_file;
-use rap_grammar_search::search::find_derivation;
+use rap_grammar_rows::search::find_derivation;
 use rast_common::show::Show;
 use std::alloc::Global;
 use std::io;

@@ -3,7 +3,7 @@ ghost use Rattle.std.specs.Prelude.{◌≡◌, ◌++◌, All, IfOk, OnOk, string
 ghost use Rattle.rast_core.specs.Listed.{IsPlaced, Lists, place_line, place_lines};
 
 use ra_ap_parser::{Input, LexedStr, NoMemory, Output, SyntaxKind};
-use rap_grammar_search::outside::{Outside, find_outside};
+use rap_grammar_rows::search::outside::{Outside, find_outside};
 use std::alloc::{AllocError, Global};
 use std::fmt::Write as _;
 

@@ -2,7 +2,7 @@
 use Rattle.std.proofs.Common.{ℕ, ◌≤◌, List, [], ◌∷◌, ◌++◌, All, AllPairs, arith}
 use Rattle.std.proofs.lemmas.List.Elements.{All-push, All-weaker}
 use Rattle.std.proofs.lemmas.List.Quantifiers.{all_pairs_push}
-use Rattle.rap_grammar_search.specs.declared.outside.Outside.{Outside}
+use Rattle.rap_grammar_rows.specs.declared.search.outside.Outside.{Outside}
 
 -- nodes of so many tokens, with so many before all of them
 pub record IsApart (tokens : ℕ) (limit : ℕ) (nodes : List Outside) : Type 0 where

@@ -1,7 +1,7 @@
 use Rattle.std.proofs.Common.{◌≡◌, refl, arith}
 use Rattle.std.proofs.lemmas.List.Quantifiers.{any-set, Any-push}
-use Rattle.rap_grammar_search.specs.declared.memo.Entry.{Entry}
-use Rattle.rap_grammar_search.proofs.memo.Memo.settle.Goals as goal
+use Rattle.rap_grammar_rows.specs.declared.search.memo.Entry.{Entry}
+use Rattle.rap_grammar_rows.proofs.search.memo.Memo.settle.Goals as goal
 
 pub returns-in-Some : goal.returns-in-Some
 returns-in-Some c = λ _.

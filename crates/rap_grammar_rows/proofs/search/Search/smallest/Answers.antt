@@ -1,6 +1,6 @@
-use Rattle.rap_grammar_search.proofs.Apart.{apart_push}
-use Rattle.rap_grammar_search.proofs.search.Search.smallest.Goals as goal
-use Rattle.rap_grammar_search.proofs.search.Search.smallest.Goals.{then-element-newest+then-is_begun+in_ok-push, else-element-newest}
+use Rattle.rap_grammar_rows.proofs.Apart.{apart_push}
+use Rattle.rap_grammar_rows.proofs.search.Search.smallest.Goals as goal
+use Rattle.rap_grammar_rows.proofs.search.Search.smallest.Goals.{then-element-newest+then-is_begun+in_ok-push, else-element-newest}
 
 pub nodes-preserved : goal.nodes-preserved
 nodes-preserved c =

@@ -1,10 +1,10 @@
 //! The nodes of a tree that the table does not derive.
 ghost use Rattle.std.specs.Prelude.{◌≤◌, length, All, AllPairs, IfOk};
 
-use crate::element::elements_of;
-use crate::memo::{Answer, Question, Wanted};
+use crate::search::element::elements_of;
+use crate::search::memo::{Answer, Question, Wanted};
+use crate::search::shape::{Root, all_roots, is_begun};
 use crate::search::{Search, new_search};
-use crate::shape::{Root, all_roots, is_begun};
 use rap_base::no_memory::NoMemory;
 use rap_base::syntax_kind::SyntaxKind;
 use rap_events::input::Input;

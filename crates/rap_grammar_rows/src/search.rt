@@ -1,18 +1,26 @@
-//! The search along a tree.
+//! A search for a derivation along a tree: the claims that `derives_file` checks. Nothing of what is found here is
+//! believed: of the search it is proved that it is safe and that it ends, and tested that it finds what there is.
 
-use crate::element::{Elements, elements_of};
-use crate::list::{Item, Lists};
-use crate::memo::{Answer, Memo, Question, Wanted};
-use crate::shape::{end_of_node, ends_with, turns_at};
+use crate::check::row_place;
+use crate::fact::Claim;
+use crate::guard::is_refused;
+use crate::part::{Part, part_at};
+use crate::search::element::{Elements, elements_of};
+use crate::search::list::{Item, Lists};
+use crate::search::memo::{Answer, Memo, Question, Wanted};
+use crate::search::shape::{end_of_node, ends_with, turns_at};
+use crate::tokens::{is_token, is_word, operator_end};
 use rap_base::no_memory::NoMemory;
 use rap_events::input::Input;
 use rap_events::output::Output;
-use rap_grammar_rows::check::row_place;
-use rap_grammar_rows::fact::Claim;
-use rap_grammar_rows::guard::is_refused;
-use rap_grammar_rows::part::{Part, part_at};
-use rap_grammar_rows::tokens::{is_token, is_word, operator_end};
 use std::alloc::Global;
+
+pub mod element;
+mod list;
+mod memo;
+pub mod outside;
+mod shape;
+mod turning;
 
 /// How a text is derived: claims in their order, and the choices of their walks.
 #[derive(Drop)]

@@ -1,6 +1,6 @@
 //! Lists that share what stands before, and that are let go all at once.
 ghost use Rattle.std.specs.Prelude.{◌≡◌, ◌==◌, List, [], ◌∷◌, ◌++◌, length, take, slice_get, Some, IfOk, OnOk, if◌then◌else◌};
-ghost use Rattle.rap_grammar_search.specs.declared.list.Link.{Link};
+ghost use Rattle.rap_grammar_rows.specs.declared.search.list.Link.{Link};
 
 use rap_base::no_memory::NoMemory;
 use std::alloc::Global;

@@ -1,6 +1,6 @@
 //! What was already asked for, and what was found.
 ghost use Rattle.std.specs.Prelude.{◌≡◌, ◌≢◌, ◌<◌, length, Any, IfSome, OnOk};
-ghost use Rattle.rap_grammar_search.specs.declared.memo.Answer.TheVariants.{Unasked};
+ghost use Rattle.rap_grammar_rows.specs.declared.search.memo.Answer.TheVariants.{Unasked};
 
 use rap_base::no_memory::NoMemory;
 use std::alloc::Global;

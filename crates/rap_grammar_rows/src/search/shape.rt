@@ -1,9 +1,9 @@
 //! What the rows tell of the nodes in a tree.
 
+use crate::check::row_place;
+use crate::part::{Part, following, part_at};
 use rap_base::no_memory::NoMemory;
 use rap_base::syntax_kind::SyntaxKind;
-use rap_grammar_rows::check::row_place;
-use rap_grammar_rows::part::{Part, following, part_at};
 use std::alloc::Global;
 
 /// How many categories there are.

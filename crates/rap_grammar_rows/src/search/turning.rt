@@ -1,13 +1,13 @@
 //! Turns one after another, and nodes around one.
 
-use crate::list::Item;
-use crate::memo::{Answer, Question, Wanted};
+use crate::check::turn_numbers;
+use crate::fact::Claim;
+use crate::part::{Part, part_at};
+use crate::search::list::Item;
+use crate::search::memo::{Answer, Question, Wanted};
 use crate::search::{Folds, Search, Task, Turns};
+use crate::tokens::contains;
 use rap_base::no_memory::NoMemory;
-use rap_grammar_rows::check::turn_numbers;
-use rap_grammar_rows::fact::Claim;
-use rap_grammar_rows::part::{Part, part_at};
-use rap_grammar_rows::tokens::contains;
 
 impl Search {
     /// Tries one more turn, or what stands last.
