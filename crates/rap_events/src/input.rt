@@ -37,8 +37,9 @@ impl Model for Input {
 impl Input {
     ghost use Rattle.rap_events.specs.Record.{kind_at, contextual_at, edition_at, joint_at, with_last_joint, IsTokenRecord};
 
-    /// Makes an empty input with room for `capacity` tokens. The error means out of memory, also if `capacity` is more
-    /// than a list can have.
+    /// Makes an empty input with room for `capacity` tokens of one edition. The first token of a second edition asks
+    /// for memory again: from then on the edition of each token is kept. The error means out of memory, also if
+    /// `capacity` is more than a list can have.
     pub fn with_capacity(alloc: Global, capacity: usize) -> Result<Input, NoMemory>
         ensures { IfOk result (λ input. input ≡ []) }
     {
@@ -94,8 +95,12 @@ impl Input {
         Ok(())
     }
 
-    /// Appends a token as [`Input::push_joint`] does, if there is room for it without asking for memory. Returns whether
-    /// it did; where it did not, the input is unchanged.
+    /// Appends a token as [`Input::push_joint`] does, if all tokens so far have its edition and there is room for it
+    /// without asking for memory. Returns whether it did; where it did not, the input is unchanged.
+    ///
+    /// Room is made by the calls that may ask for memory, for 1,024 tokens at a time, so a new input has none. Once
+    /// tokens of two editions were pushed, none is taken, however much room there is: this call serves loops over the
+    /// tokens of one text, where it would only cost time to write editions down.
     #[inline(always)]
     pub fn push_joint_in_room(&mut self, kind: SyntaxKind, edition: Edition, joint: bool) -> bool
         requires token { is_token kind ≡ true }
@@ -112,8 +117,9 @@ impl Input {
         true
     }
 
-    /// Appends an identifier as [`Input::push_ident`] does, if there is room for it without asking for memory. Returns
-    /// whether it did; where it did not, the input is unchanged.
+    /// Appends an identifier as [`Input::push_ident`] does, if all tokens so far have its edition and there is room for
+    /// it without asking for memory, as [`Input::push_joint_in_room`] has it. Returns whether it did; where it did not,
+    /// the input is unchanged.
     #[inline(always)]
     pub fn push_ident_in_room(&mut self, contextual_kind: SyntaxKind, edition: Edition) -> bool
         requires { is_token contextual_kind ≡ true }
@@ -128,9 +134,10 @@ impl Input {
         true
     }
 
-    /// Appends tokens by their kinds alone, if there is room for them without asking for memory: those of consecutive
-    /// tokens of a text, trivia among them, which are left out. The last kind is only looked at, as the one after.
-    /// Returns how many of the kinds were taken, which may be none.
+    /// Appends tokens by their kinds alone, if all tokens so far have this edition and there is room for them without
+    /// asking for memory: those of consecutive tokens of a text, trivia among them, which are left out. The last kind
+    /// is only looked at, as the one after. Returns how many of the kinds were taken, which may be none, and is none
+    /// once tokens of two editions were pushed.
     ///
     /// An identifier may be read as nothing else. A token is joint if neither it nor the one right after it is trivia
     /// or an identifier. A float number is not taken: its joint bit needs its text.
