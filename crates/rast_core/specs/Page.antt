@@ -6,7 +6,7 @@ use Rattle.rap_base.specs.declared.no_memory.NoMemory.{NoMemory as Memory}
 use Rattle.rap_events.specs.Forest.{Forest, none, node, message_count}
 use Rattle.rap_grammar_table.specs.Tops.{MakesRow, file_row}
 use Rattle.rap_lexed.specs.Input.{records}
-use Rattle.rap_lexed.specs.LexedStr.{Lexed, IsLexing}
+use Rattle.rap_lexed.specs.LexedStr.{Lexed}
 use Rattle.ra_ap_parser.specs.Headline.{IsParsed}
 use Rattle.ra_ap_parser.specs.declared.entry_point.TopEntryPoint.TheVariants.{SourceFile}
 use Rattle.rast_common.specs.Ran.{IsMade}
@@ -28,11 +28,13 @@ pub record IsDerived (text : List ℕ) (edition : Edition) : Type 0 where
   pub silent : message_count (node none SOURCE_FILE forest) ≡ 0
   pub quiet : lexed.errors ≡ []
 
--- the lines are those of places among the text's tokens
+-- The lines are those of tokens of the text that the lexer has a message of, and of nodes of its tree: the one of
+-- `IsParsed`, which `rast` prints with the trivia put back.
 pub record IsListed (text : List ℕ) (edition : Edition) (lines : List ℕ) : Type 0 where
   pub lexed : Lexed
-  pub lexing : IsLexing text edition lexed
-  pub lists : Lists lexed.tokens lines
+  pub tree : Forest
+  pub parsed : IsParsed text edition SourceFile lexed tree
+  pub lists : Lists lexed tree lines
 
 -- what is told of a text
 abbrev pub Answers : List ℕ → Edition → Answer → Type 0

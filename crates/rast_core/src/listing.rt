@@ -1,7 +1,12 @@
 //! What of a text is outside of the core grammar, and its lines.
-ghost use Rattle.std.specs.Prelude.{◌≡◌, ◌++◌, All, IfOk, OnOk, string_bytes};
-ghost use Rattle.rast_core.specs.Listed.{IsPlaced, Lists, place_line, place_lines};
+ghost use Rattle.std.specs.Prelude.{◌≡◌, ◌<◌, ◌+◌, ℕ, [], ◌∷◌, ◌++◌, All, IfOk, OnOk, if◌then◌else◌, length, string_bytes};
+ghost use Rattle.rap_events.specs.Forest.{Forest};
+ghost use Rattle.rap_lexed.specs.LexedStr.{start_of, token_at};
+ghost use Rattle.rap_lexed.specs.Trivia.{is_trivial};
+ghost use Rattle.rast_core.specs.Listed.{HasMessage, IsNodePlace, IsReported, Lists, end_behind, number_after, numbers_read, place_line, place_lines};
+ghost use Rattle.rast_core.specs.Nodes.{IsNode};
 
+use crate::nodes::find_nodes;
 use ra_ap_parser::{Input, LexedStr, NoMemory, Output, SyntaxKind};
 use rap_grammar_rows::search::outside::{Outside, find_outside};
 use std::alloc::{AllocError, Global};
@@ -15,78 +20,136 @@ struct Place {
     end: usize,
 }
 
-/// The place of the tokens from one to before another. Where there are not as many it ends with the last one.
-fn place_of(lexed: &LexedStr<'_>, kind: SyntaxKind, first: usize, behind: usize) -> Place
-    ensures { IsPlaced lexed.now.tokens result }
+/// Adds a token that the lexer has a message of.
+fn push_token(places: &mut Vec<Place>, lexed: &LexedStr<'_>, token: usize) -> Result<(), NoMemory>
+    requires within { token < length lexed.now.tokens }
+    requires message { HasMessage lexed.now token }
+    requires places { All (IsReported lexed.now) places.old.items }
+    ensures { OnOk result (All (IsReported lexed.now) places.new.items) }
 {
-    let last = behind.min(lexed.len());
-    let begin = first.min(last);
-    let start = lexed.text_start(begin);
-    let end = lexed.text_start(last);
-    Place { kind, start, end }
+    let kind = lexed.kind(token);
+    let range = lexed.text_range(token);
+    places.push(Place {
+        kind,
+        start: range.start,
+        end: range.end,
+    })?;
+    Ok(())
 }
 
-/// Adds each token that the lexer has a message of.
-fn push_reported(places: &mut Vec<Place>, lexed: &LexedStr<'_>) -> Result<(), NoMemory>
-    requires { All (IsPlaced lexed.now.tokens) places.old.items }
-    ensures { OnOk result (All (IsPlaced lexed.now.tokens) places.new.items) }
+/// The tokens that the lexer has a message of, each once.
+fn reported_tokens(alloc: Global, lexed: &LexedStr<'_>) -> Result<Vec<Place>, NoMemory>
+    ensures { IfOk result (λ places. All (IsReported lexed.now) places.items) }
 {
+    let mut places = Vec::new(alloc);
     let mut listed = 0;
     'errors: for (token, _) in lexed.errors() {
         if listed <= token && token < lexed.len() {
-            places.push(place_of(lexed, lexed.kind(token), token, token + 1))?;
+            push_token(&mut places, lexed, token)?;
             listed = token + 1;
         }
     }
+    Ok(places)
+}
+
+/// Adds the number of a token if the parser reads it.
+fn push_read(numbers: &mut Vec<usize>, lexed: &LexedStr<'_>, token: usize) -> Result<(), NoMemory>
+    requires { token < length lexed.now.tokens }
+    ensures { OnOk result (numbers.new.items ≡ numbers.old.items ++ (if is_trivial (token_at lexed.now.tokens token) then [] else token ∷ [])) }
+{
+    if lexed.kind(token).is_trivia() {
+        return Ok(());
+    }
+    numbers.push(token)?;
     Ok(())
 }
 
 /// The numbers of the tokens that the parser reads, in order.
-fn read_tokens(alloc: Global, lexed: &LexedStr<'_>) -> Result<Vec<usize>, NoMemory> {
+fn read_tokens(alloc: Global, lexed: &LexedStr<'_>) -> Result<Vec<usize>, NoMemory>
+    ensures { IfOk result (λ numbers. numbers.items ≡ numbers_read lexed.now.tokens (length lexed.now.tokens)) }
+{
     let mut numbers = Vec::new(alloc);
     'tokens: for i in 0..lexed.len() {
-        if !lexed.kind(i).is_trivia() {
-            numbers.push(i)?;
-        }
+        push_read(&mut numbers, lexed, i)?;
     }
     Ok(numbers)
 }
 
-/// The place of a node, by the numbers of the tokens that the parser reads. Of one without tokens it is where the next
-/// token begins.
-fn node_place(lexed: &LexedStr<'_>, numbers: &[usize], node: Outside) -> Place
-    ensures { IsPlaced lexed.now.tokens result }
+/// The number of the token that the parser reads after so many others, by the numbers of all that it reads; where there
+/// is none, how many tokens there are.
+fn number_after(lexed: &LexedStr<'_>, numbers: &[usize], before: usize) -> usize
+    requires { numbers.now ≡ numbers_read lexed.now.tokens (length lexed.now.tokens) }
+    ensures { result ≡ number_after lexed.now.tokens before }
 {
-    let first = if node.start < numbers.len() {
-        numbers[node.start]
+    if before < numbers.len() {
+        numbers[before]
     } else {
         lexed.len()
-    };
-    let behind = if node.start < node.end && node.end <= numbers.len() {
-        numbers[node.end - 1].saturating_add(1)
-    } else {
-        first
-    };
-    place_of(lexed, node.kind, first, behind)
+    }
 }
 
-/// Adds the nodes that the core grammar does not derive, in the order of the text.
-fn push_nodes(
+/// Where the token with a number begins; behind the last one the end of the text.
+fn start_of(lexed: &LexedStr<'_>, number: usize) -> usize
+    ensures { result ≡ start_of lexed.now.tokens number }
+{
+    lexed.text_start(number.min(lexed.len()))
+}
+
+/// Where the token with a number ends; behind the last one the end of the text.
+fn end_of(lexed: &LexedStr<'_>, number: usize) -> usize
+    ensures { result ≡ start_of lexed.now.tokens (number + 1) }
+{
+    if number < lexed.len() {
+        lexed.text_range(number).end
+    } else {
+        lexed.text_start(lexed.len())
+    }
+}
+
+/// Where the tokens from one to before another end, by the numbers of the tokens that the parser reads. Where there are
+/// none they end where the next one begins.
+fn node_end(lexed: &LexedStr<'_>, numbers: &[usize], first: usize, behind: usize) -> usize
+    requires { numbers.now ≡ numbers_read lexed.now.tokens (length lexed.now.tokens) }
+    ensures { (used : ℕ) → behind ≡ first + used → result ≡ end_behind lexed.now.tokens first used }
+{
+    if first < behind {
+        end_of(lexed, number_after(lexed, numbers, behind - 1))
+    } else {
+        start_of(lexed, number_after(lexed, numbers, first))
+    }
+}
+
+/// The place of a node, by the numbers of the tokens that the parser reads.
+fn node_place(lexed: &LexedStr<'_>, numbers: &[usize], node: Outside) -> Place
+    requires { numbers.now ≡ numbers_read lexed.now.tokens (length lexed.now.tokens) }
+    ensures { (tree : Forest) → IsNode tree node → IsNodePlace lexed.now.tokens tree result }
+{
+    let start = start_of(lexed, number_after(lexed, numbers, node.start));
+    let end = node_end(lexed, numbers, node.start, node.end);
+    Place {
+        kind: node.kind,
+        start,
+        end,
+    }
+}
+
+/// The nodes that the core grammar does not derive, in the order of the text.
+fn nodes_outside(
     alloc: Global,
-    places: &mut Vec<Place>,
     lexed: &LexedStr<'_>,
     input: &Input,
     output: &Output,
-) -> Result<(), NoMemory>
-    requires { All (IsPlaced lexed.now.tokens) places.old.items }
-    ensures { OnOk result (All (IsPlaced lexed.now.tokens) places.new.items) }
+) -> Result<Vec<Place>, NoMemory>
+    ensures { IfOk result (λ places. All (IsNodePlace lexed.now.tokens output.now) places.items) }
 {
-    let nodes = find_outside(alloc, input, output)?;
+    let wanted = find_outside(alloc, input, output)?;
+    let nodes = find_nodes(alloc, output, wanted)?;
     let numbers = read_tokens(alloc, lexed)?;
-    'nodes: for node in nodes.iter().rev() {
+    let mut places = Vec::new(alloc);
+    'nodes: for node in nodes.as_slice() {
         places.push(node_place(lexed, numbers.as_slice(), *node))?;
     }
-    Ok(())
+    Ok(places)
 }
 
 /// Adds the line of a place.
@@ -99,33 +162,24 @@ fn push_line(lines: &mut String, place: &Place) -> Result<(), AllocError>
     Ok(())
 }
 
-/// The lines of places.
-fn place_text(alloc: Global, places: &[Place]) -> Result<String, NoMemory>
-    ensures { IfOk result (λ lines. string_bytes lines ≡ place_lines places.now) }
+/// Adds the lines of places.
+fn push_lines(lines: &mut String, places: &[Place]) -> Result<(), AllocError>
+    ensures { OnOk result (string_bytes lines.new ≡ string_bytes lines.old ++ place_lines places.now) }
 {
-    let mut lines = String::new(alloc);
     'places: for place in places {
-        push_line(&mut lines, place)?;
+        push_line(lines, place)?;
     }
-    Ok(lines)
+    Ok(())
 }
 
-/// The tokens that the lexer has a message of, and with `nodes` the nodes that the core grammar does not derive.
-fn places_outside(
-    alloc: Global,
-    lexed: &LexedStr<'_>,
-    input: &Input,
-    output: &Output,
-    nodes: bool,
-) -> Result<Vec<Place>, NoMemory>
-    ensures { IfOk result (λ places. All (IsPlaced lexed.now.tokens) places.items) }
+/// The lines of tokens, and after them those of nodes.
+fn lines_of(alloc: Global, tokens: &[Place], nodes: &[Place]) -> Result<String, NoMemory>
+    ensures { IfOk result (λ lines. string_bytes lines ≡ place_lines tokens.now ++ place_lines nodes.now) }
 {
-    let mut places = Vec::new(alloc);
-    push_reported(&mut places, lexed)?;
-    if nodes {
-        push_nodes(alloc, &mut places, lexed, input, output)?;
-    }
-    Ok(places)
+    let mut lines = String::new(alloc);
+    push_lines(&mut lines, tokens)?;
+    push_lines(&mut lines, nodes)?;
+    Ok(lines)
 }
 
 /// Lists the tokens that the lexer has a message of, and with `nodes` the nodes that the core grammar does not derive.
@@ -136,9 +190,14 @@ pub fn list_outside(
     output: &Output,
     nodes: bool,
 ) -> Result<String, NoMemory>
-    ensures { IfOk result (λ lines. Lists lexed.now.tokens (string_bytes lines)) }
+    ensures { IfOk result (λ lines. Lists lexed.now output.now (string_bytes lines)) }
 {
-    let places = places_outside(alloc, lexed, input, output, nodes)?;
-    let lines = place_text(alloc, places.as_slice())?;
+    let tokens = reported_tokens(alloc, lexed)?;
+    if !nodes {
+        let lines = lines_of(alloc, tokens.as_slice(), &[])?;
+        return Ok(lines);
+    }
+    let nodes = nodes_outside(alloc, lexed, input, output)?;
+    let lines = lines_of(alloc, tokens.as_slice(), nodes.as_slice())?;
     Ok(lines)
 }

@@ -3,6 +3,7 @@
 
 mod answer;
 mod listing;
+mod nodes;
 mod request;
 mod run;
 
