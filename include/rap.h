@@ -24,7 +24,9 @@
  * A caller must meet these requirements:
  * - No pointer may be NULL, not even where its length is 0: any other address of the type is allowed then.
  * - An array that is written to must not overlap any other argument.
- * - The program must be linked with the kit's memory functions, liblibc_c.a, which call malloc, realloc and free.
+ * - The library gets memory by the kit's memory functions, which call malloc, realloc and free. librap.a and librap.so.0
+ *   of a release have these functions inside. A program that is linked with librap_c.a, which `rt lib` builds in a clone
+ *   of the repository, must be linked with them too: liblibc_c.a of the kit.
  * - The stack must be large enough: rap_stack, below, says how large. There is no limit of depth in the code.
  * - The processor must have the instructions of x86-64-v2, as those of SSE4.2. No call tests for them.
  * Calls may run on several threads at a time. Nothing is kept from one call to the next, and a call frees all memory

@@ -2,7 +2,7 @@
 import os
 import shutil
 
-from packing import TOP, Refused, crate_version, output
+from packing import TOP, Refused, crate_version, output, read
 
 # The packages' folders in `bindings`, and their names.
 PACKAGES = {'rust': 'ra_ap_parser', 'tree': 'rap_tree'}
@@ -27,7 +27,9 @@ def make_crates(work: str, dist: str, epoch: int) -> None:
             os.makedirs(os.path.dirname(f'{work}/{name}'), exist_ok=True)
             shutil.copyfile(f'{TOP}/{name}', f'{work}/{name}')
     for name in LICENCES:
-        shutil.copyfile(f'{TOP}/{name}', f'{at}/rust/{os.path.basename(name)}')
+        # What a document links to above its folder is beside it in the package.
+        with open(f'{at}/rust/{os.path.basename(name)}', 'w', encoding='utf-8') as file:
+            file.write(read(name).replace('](../', ']('))
     os.makedirs(f'{at}/rust/lib')
     shutil.copyfile(f'{work}/librap.a', f'{at}/rust/lib/librap.a')
     # The second package is over the first, and not over the crate of that name.

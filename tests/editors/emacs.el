@@ -1,6 +1,6 @@
 ;;; emacs.el --- What Emacs shows of a document by eglot  -*- lexical-binding: t -*-
-;; Run by tests/editors/open as `emacs --batch -l emacs.el`, with the program in $RAST_SERVER and the document in
-;; $RAST_DOCUMENT.
+;; Run by tests/editors/open as `emacs --batch -l emacs.el`, with the lines of docs/SERVER.md for Emacs in the file
+;; $RAST_LINES, and the document in $RAST_DOCUMENT.
 (require 'package)
 (package-initialize)
 (require 'eglot)
@@ -22,12 +22,12 @@
       (setq tries (1- tries)))
     (rast-check (> tries 0) "waited in vain: %s" text)))
 
-(define-derived-mode rast-mode prog-mode "Rast")
-(add-to-list 'eglot-server-programs (list 'rast-mode (getenv "RAST_SERVER")))
+(define-derived-mode rust-mode prog-mode "Rust")
+(load (getenv "RAST_LINES") nil t t)
 (setq eglot-sync-connect t eglot-autoshutdown nil eglot-send-changes-idle-time 0.01)
 
 (find-file (getenv "RAST_DOCUMENT"))
-(rast-mode)
+(rust-mode)
 (defvar rast-diagnostics nil "What the server published last.")
 (cl-defmethod eglot-handle-notification :after
   (_server (_method (eql textDocument/publishDiagnostics)) &key _uri diagnostics &allow-other-keys)

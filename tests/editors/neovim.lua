@@ -1,5 +1,5 @@
--- What Neovim's own client shows of a document: run by tests/editors/open as `nvim --headless -u NONE -l`, or for older
--- versions `-c "luafile neovim.lua"`, with the program in $RAST_SERVER and the document in $RAST_DOCUMENT.
+-- What Neovim's own client shows of a document: run by tests/editors/open as `nvim --headless -u FILE -c "luafile
+-- neovim.lua"`, where FILE has the lines of docs/SERVER.md for Neovim, with the document in $RAST_DOCUMENT.
 local function fail(text)
   io.stderr:write('neovim: ' .. text .. '\n')
   vim.cmd('cquit 1')
@@ -18,15 +18,18 @@ end
 
 vim.cmd('edit ' .. vim.fn.fnameescape(vim.env.RAST_DOCUMENT))
 local buffer = vim.api.nvim_get_current_buf()
-local id = vim.lsp.start_client({
-  name = 'rast',
-  cmd = { vim.env.RAST_SERVER },
-  root_dir = vim.fn.getcwd(),
-  on_error = function(code) fail('error ' .. code) end,
-})
-check(id, 'no client')
-wait('the server', function() return vim.lsp.get_client_by_id(id).initialized end)
-check(vim.lsp.buf_attach_client(buffer, id), 'not attached')
+
+-- The client that the lines started: `get_clients` is of Neovim 0.10, where the other name went.
+local id
+wait('the server', function()
+  for _, client in pairs((vim.lsp.get_clients or vim.lsp.get_active_clients)()) do
+    if client.name == 'rast' then
+      id = client.id
+    end
+  end
+  return id
+end)
+wait('the document', function() return vim.lsp.buf_is_attached(buffer, id) end)
 
 local function diagnostics()
   return vim.diagnostic.get(buffer)

@@ -24,9 +24,10 @@ use std::marker::Model;
 /// 1. the node has a reparser, and its first token is `{`;
 /// 2. `new`, lexed alone, begins with `{`, and the new node's own closing brace is the last of all its tokens, as
 ///    [`Reparser::is_closed`] says;
-/// 3. the old node was closed by its own brace, which [`Reparser::is_closed`] says of it and `old`; 4. past a shebang
-/// and blank lines the whole text does not begin with `---`, or the old tree has a `FRONTMATTER` token; 5. the message
-/// `unknown literal prefix` is about none of the first five tokens of `old` or `new`, white space and
+/// 3. the old node was closed by its own brace, which [`Reparser::is_closed`] says of it and `old`;
+/// 4. past a shebang and blank lines the whole text does not begin with `---`, or the old tree has a `FRONTMATTER`
+///    token;
+/// 5. the message `unknown literal prefix` is about none of the first five tokens of `old` or `new`, white space and
 ///    comments among them, nor about one of the five behind the node.
 ///
 /// What must hold of braces, messages and what stands around the node is all in these. The third spares only a stale

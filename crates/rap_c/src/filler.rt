@@ -47,8 +47,8 @@ impl<'a> Filler<'a> {
         ensures steps { result.steps.ghost_name ≡ steps.entry.ghost_name }
         ensures messages { result.messages.ghost_name ≡ messages.entry.ghost_name }
     {
+        // For the proof: both fit their type.
         let _step_room = steps.len();
-        // For the proof: it fits its type.
         let _message_room = messages.len();
         Filler {
             steps,

@@ -49,8 +49,8 @@ impl<'a> Packer<'a> {
         ensures words { result.words.ghost_name ≡ words.entry.ghost_name }
         ensures messages { result.messages.ghost_name ≡ messages.entry.ghost_name }
     {
+        // For the proof: both fit their type.
         let _word_room = words.len();
-        // For the proof: it fits its type.
         let _message_room = messages.len();
         Packer {
             words,

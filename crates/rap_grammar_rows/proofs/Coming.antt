@@ -67,7 +67,11 @@ pub joint_beyond : (tokens ks : List Record) (at end n : ℕ) → at ≤ end →
 joint_beyond tokens ks at end n h l b s =
     let k : length ks ≡ end - at = segment_length tokens ks at end h l s in joint_past ks n (omega arith)
 
--- the tokens are some, or one
+-- the tokens are none, some, or one
+pub no_token : (tokens ks : List Record) (at : ℕ) → Segment tokens at at ks → ks ≡ []
+no_token tokens [] at s = refl
+no_token tokens (r ∷ rs) at s = absurd (omega (arith, ap length s, length-append (r ∷ rs) (drop at tokens)))
+
 pub record Some_tokens (ks : List Record) : Type 0 where
   pub front : Record
   pub others : List Record

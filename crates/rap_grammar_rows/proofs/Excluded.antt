@@ -5,14 +5,17 @@ use Rattle.std.specs.Prelude.{not}
 use Rattle.rap_base.specs.TokenKind.{EOF, COLON, COMMA, EQ, POUND, L_PAREN, R_PAREN, L_CURLY, L_ANGLE, R_ANGLE, LIFETIME_IDENT, IMPL_KW, FOR_KW, IN_KW, MUT_KW, AMP, PIPE, IDENT, UNDERSCORE, BANG, CONST_KW, FN_KW, UNSAFE_KW, EXTERN_KW, SELF_KW, SUPER_KW, CRATE_KW}
 use Rattle.rap_events.specs.Composite.{begins_with}
 use Rattle.rap_events.specs.Record.{Record, kind_at}
-use Rattle.rap_grammar_rows.proofs.Coming.{Some_tokens, some_tokens, one_token, mark_known, kind_known}
+use Rattle.rap_grammar_rows.proofs.Coming.{Some_tokens, some_tokens, no_token, one_token, mark_known, kind_known}
 use Rattle.rap_grammar_rows.specs.Claims.{Segment, IsRefused}
 use Rattle.rap_grammar_rows.specs.Excluders.{none_of, some_of, coming, not_twice, path_or_pointer, no_named_param, no_restriction, params_begin, no_ident_pat, excluders, excluder_in, is_excluded}
 use Rattle.rap_grammar_rows.specs.Guards.{Guard, guards, guard_at}
 use Rattle.rap_grammar_rows.specs.declared.guard.Ahead.{Ahead}
 use Rattle.rap_grammar_scripts.specs.First.{one_of}
 use Rattle.rap_grammar_scripts.specs.Test.{holds}
+use Rattle.rap_grammar_scripts.specs.Words.{next_is}
+use Rattle.rap_grammar_table.specs.GenericRows.{bounds_end}
 use Rattle.rap_grammar_table.specs.Known.{Sees, this_way, later_way}
+use Rattle.rap_grammar_table.proofs.Known.{never_so}
 
 -- truths
 not_both : (a b : Bool) → (not a && b) ≡ true → (a ≡ false) × (b ≡ true)
@@ -321,7 +324,10 @@ all_exclude = (
                                 no_ident,
                                 (
                                   (λ r rs l h. not_one (r.kind == LIFETIME_IDENT) h),
-                                  ((λ r rs l h. not_one (r.kind == L_CURLY) h), tt),
+                                  (
+                                    (λ r rs l h. not_one (r.kind == L_CURLY) h),
+                                    ((λ r rs l h. not_one (r.kind == COLON) h), tt),
+                                  ),
                                 ),
                               ),
                             ),
@@ -361,3 +367,10 @@ refused_at_end tokens at end o h l ks s rest sees =
     let t : (r : Record) × (ks ≡ r ∷ []) = one_token tokens ks at end o h l s in
     ap (λ (l : List Record). holds (guard_at 4 guards).0 (l ++ rest)) t.1 ∙
     no_third ((t.0.kind == IDENT) || (t.0.kind == UNDERSCORE)) (kind_at rest 0 == COLON) _ (closes rest sees)
+
+-- behind a colon with no bounds stands what ends them
+pub refused_before_end : (tokens : List Record) (at : ℕ) → IsRefused 18 tokens at at
+refused_before_end tokens at ks s rest sees =
+    let t : ks ≡ [] = no_token tokens ks at s in
+    ap (λ (l : List Record). holds (guard_at 18 guards).0 (l ++ rest)) t ∙
+    never_so (next_is COLON) bounds_end rest refl sees

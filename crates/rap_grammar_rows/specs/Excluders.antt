@@ -89,6 +89,7 @@ excluders =
     ∷ no_ident_pat
     ∷ begins_with_none (LIFETIME_IDENT ∷ [])
     ∷ begins_with_none (L_CURLY ∷ [])
+    ∷ begins_with_none (COLON ∷ [])
     ∷ []
 
 abbrev pub excluder_in : ℕ → List (Ahead → Bool) → Ahead → Bool

@@ -9,6 +9,7 @@ use Rattle.rap_grammar_scripts.specs.Traits.{is_impl_params_start}
 use Rattle.rap_grammar_scripts.specs.Types.{starts_for_target}
 use Rattle.rap_grammar_scripts.specs.Visibility.{starts_restriction, starts_in_restriction}
 use Rattle.rap_grammar_scripts.specs.Words.{is_at, next_is, next_so}
+use Rattle.rap_grammar_table.specs.GenericRows.{bounds_end}
 use Rattle.rap_grammar_table.specs.ItemRows.{no_impl_type}
 use Rattle.rap_grammar_table.specs.Known.{Place}
 use Rattle.rap_grammar_table.specs.Look.{anything}
@@ -37,6 +38,7 @@ guards =
     ∷ (is_ident_pat_start, anything)
     ∷ (next_is LIFETIME_IDENT, anything)
     ∷ (next_is L_CURLY, anything)
+    ∷ (next_is COLON, bounds_end)
     ∷ []
 
 abbrev pub guard_at : ℕ → List Guard → Guard

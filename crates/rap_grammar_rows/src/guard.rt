@@ -200,6 +200,7 @@ fn is_excluded(guard: usize, coming: Ahead) -> bool
         15 => no_ident_pat(coming),
         16 => coming.first != SyntaxKind::LIFETIME_IDENT,
         17 => coming.first != SyntaxKind::L_CURLY,
+        18 => coming.first != SyntaxKind::COLON,
         _ => false,
     }
 }
@@ -208,6 +209,10 @@ fn is_excluded(guard: usize, coming: Ahead) -> bool
 pub fn is_refused(input: &Input, at: usize, end: usize, guard: usize) -> bool
     ensures { IsTrue result → IsRefused guard input.now at end }
 {
+    // What follows bounds is no `:`, and it comes next where a colon has none behind it.
+    if guard == 18 && end == at {
+        return true;
+    }
     if at >= end || end > input.len() {
         return false;
     }

@@ -1,12 +1,18 @@
--- Derivations by hand: `!`, and `&mut _`.
-use Rattle.std.proofs.Common.{◌≡◌, refl, List, [], ◌∷◌, ℕ}
-use Rattle.rap_base.specs.NodeKind.{INFER_TYPE, NEVER_TYPE, REF_TYPE}
-use Rattle.rap_base.specs.TokenKind.{AMP, BANG, UNDERSCORE, MUT_KW}
+-- Derivations by hand: `!`, `&mut _`, and `'a:` behind a `where`.
+use Rattle.std.proofs.Common.{◌≡◌, refl, false, List, [], ◌∷◌, ℕ}
+use Rattle.rap_base.specs.NodeKind.{INFER_TYPE, LIFETIME, NEVER_TYPE, REF_TYPE, TYPE_BOUND_LIST, WHERE_PRED}
+use Rattle.rap_base.specs.TokenKind.{AMP, BANG, COLON, LIFETIME_IDENT, UNDERSCORE, MUT_KW, PLUS}
 use Rattle.rap_events.specs.Forest.{Forest, none, node, leaf}
 use Rattle.rap_events.specs.Record.{Record}
-use Rattle.rap_grammar_table.specs.Categories.{Ty, PlainTy}
+use Rattle.rap_grammar_scripts.specs.Test.{holds}
+use Rattle.rap_grammar_scripts.specs.Words.{next_is}
+use Rattle.rap_grammar_table.specs.Categories.{Bound, Predicate, Ty, PlainTy}
+use Rattle.rap_grammar_table.specs.GenericRows.{bounds_end}
+use Rattle.rap_grammar_table.specs.Known.{Sees}
+use Rattle.rap_grammar_table.specs.Notation.{◌⊳◌, t, c, opt, alone, row}
 use Rattle.rap_grammar_table.specs.Rows.{table}
-use Rattle.rap_grammar_table.specs.Table.{Beside, Derives, one, cat, by_row, a_token, ended, begun, closed, put, first_way, second_way}
+use Rattle.rap_grammar_table.specs.Table.{Beside, Derives, one, rest_of, cat, turns_of, by_row, a_token, ended, begun, closed, put, first_way, second_way, last_turn, repeated, grouped, guarded}
+use Rattle.rap_grammar_table.proofs.Known.{never_so}
 
 abbrev nothing_given : Beside
 nothing_given c ps ks y = ⊥
@@ -27,3 +33,21 @@ a_reference a m r h i j =
     by_row 3 refl
     (begun (put (a_token (rw h refl) refl) (second_way (first_way (put (a_token (rw i refl) refl)
     (put (an_underscore r j) (closed ended)))))))
+
+-- no bounds behind a colon
+no_colon : (l : List Record) → Sees bounds_end l → holds (next_is COLON) l ≡ false
+no_colon l s = never_so (next_is COLON) bounds_end l refl s
+
+no_more : Derives table nothing_given
+    (rest_of (turns_of (row (c Bound ⊳ t PLUS)) (row (alone (opt (c Bound))))) none [] []) [] none
+no_more = last_turn (grouped {ks = []} {js = []} (second_way ended) ended)
+
+a_lifetime : (a b : Record) → a.kind ≡ LIFETIME_IDENT → b.kind ≡ COLON →
+    Makes Predicate (a ∷ b ∷ [])
+    (node none WHERE_PRED (node (leaf (node none LIFETIME (leaf none a.kind 1)) b.kind 1) TYPE_BOUND_LIST none))
+a_lifetime a b h i =
+    by_row 0 refl
+    (begun (begun (put (a_token (rw h refl) refl) (closed (grouped {ks = b ∷ []} {js = []}
+    (put (a_token (rw i refl) refl)
+    (guarded no_colon (begun (repeated {ks = []} {js = []} no_more (closed ended)))))
+    (closed ended))))))

@@ -7,14 +7,14 @@ use Rattle.rap_events.specs.Record.{Record, kind_at, contextual_at, joint_at}
 use Rattle.rap_grammar_scripts.proofs.OneEnd.{one_end}
 use Rattle.rap_grammar_scripts.specs.Script.{Script, Spot}
 use Rattle.rap_grammar_scripts.specs.declared.rule.Rule.{Rule}
-use Rattle.rap_grammar_table.specs.Categories.{AnchoredPath, AssocItems, Block, Expr, ExternItems, FrontStmt, GlobalPath, Item, ItemList, LastStmt, MatchArms, Meta, Path, Pattern, RecordFields, RecordValues, SinglePattern, Ty, UseTrees, Variants, Visibility}
+use Rattle.rap_grammar_table.specs.Categories.{AnchoredPath, AssocItems, Block, Expr, ExternItems, FrontStmt, GlobalPath, Item, ItemList, LastStmt, MatchArms, Meta, Path, Pattern, RecordFields, RecordValues, SinglePattern, TokenTree, Ty, UseTrees, Variants, Visibility}
 use Rattle.rap_grammar_table.specs.Fronts.{any_but}
 use Rattle.rap_grammar_table.specs.Known.{Fits, Sees, place_at, this_way}
 use Rattle.rap_grammar_table.specs.Laws.{HasOneForest, HasOneTree}
 use Rattle.rap_grammar_table.specs.Notation.{of_kinds}
 use Rattle.rap_grammar_table.specs.Rows.{table}
 use Rattle.rap_grammar_table.specs.Tops.{at_end, file_row, items_row, stmts_row}
-use Rattle.rap_grammar_table.proofs.Fronts.{MakesOf, anchored_path_front, arms_front, assoc_items_front, block_front, expr_front, extern_items_front, fields_front, global_path_front, item_front, items_front, last_stmt_front, meta_front, path_front, pattern_front, single_front, stmt_front, type_front, use_trees_front, values_front, variants_front, visibility_front}
+use Rattle.rap_grammar_table.proofs.Fronts.{MakesOf, anchored_path_front, arms_front, assoc_items_front, block_front, expr_front, extern_items_front, fields_front, global_path_front, item_front, items_front, last_stmt_front, meta_front, path_front, pattern_front, single_front, stmt_front, token_tree_front, type_front, use_trees_front, values_front, variants_front, visibility_front}
 use Rattle.rap_grammar_table.proofs.Known.{weaker}
 use Rattle.rap_grammar_table.proofs.Tops.{MakesAll, end_follows, file_made, items_made, sees_end, stmts_made}
 
@@ -115,6 +115,9 @@ one_of_assoc_lists ks y z d e = one_made ks [] (assoc_items_front [] d) (assoc_i
 
 pub one_of_item_lists : HasOneTree ItemList
 one_of_item_lists ks y z d e = one_made ks [] (items_front [] d) (items_front [] e)
+
+pub one_of_token_trees : HasOneTree TokenTree
+one_of_token_trees ks y z d e = one_made ks [] (token_tree_front [] d) (token_tree_front [] e)
 
 -- what stands under an entry's node
 pub one_of_files : HasOneForest file_row

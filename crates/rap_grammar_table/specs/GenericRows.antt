@@ -11,12 +11,15 @@ use Rattle.rap_grammar_table.specs.Categories.{Ty, PlainTy, TyBeforePlus, Symbol
 use Rattle.rap_grammar_table.specs.Known.{Place, behind}
 use Rattle.rap_grammar_table.specs.Look.{anything}
 use Rattle.rap_grammar_table.specs.Narrow.{each, narrowed}
-use Rattle.rap_grammar_table.specs.Notation.{Part, ◌⊳◌, t, c, node, opt, either, commas, until, alone, guard, each_under, Entry, text, read_text, of_kinds}
+use Rattle.rap_grammar_table.specs.Notation.{Part, ◌⊳◌, t, c, node, opt, either, commas, until, alone, guard, guard_before, each_under, Entry, text, read_text, of_kinds}
 use Rattle.rap_grammar_table.specs.TypeRows.{bound_list, bounded, for_binder, named_paths, opt_args}
 
--- the colon of bounds, and these
+-- The colon of bounds, and these. There may be none; then what follows them comes behind the colon.
+abbrev pub bounds_end : List (List Place)
+bounds_end = (of_kinds (COMMA ∷ L_CURLY ∷ SEMICOLON ∷ EQ ∷ R_ANGLE ∷ []) ∷ []) ∷ []
+
 abbrev pub colon_bounds : Part
-colon_bounds = t COLON ⊳ guard (next_is COLON) ⊳ bound_list
+colon_bounds = t COLON ⊳ guard_before bounds_end (next_is COLON) ⊳ bound_list
 
 -- a name that is bound to a type or a constant, or has bounds
 abbrev pub assoc_args : List Part

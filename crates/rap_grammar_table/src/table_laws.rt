@@ -1,6 +1,6 @@
 //! Laws of what the table derives. Each is a function that does nothing and whose contract is the law.
 ghost use Rattle.rap_grammar_table.specs.Again.{MakesItsNodes};
-ghost use Rattle.rap_grammar_table.specs.Categories.{AnchoredPath, AssocItems, Block, Expr, ExternItems, FrontStmt, GlobalPath, Item, ItemList, LastStmt, MatchArms, Meta, Path, Pattern, RecordFields, RecordValues, SinglePattern, Ty, UseTrees, Variants, Visibility};
+ghost use Rattle.rap_grammar_table.specs.Categories.{AnchoredPath, AssocItems, Block, Expr, ExternItems, FrontStmt, GlobalPath, Item, ItemList, LastStmt, MatchArms, Meta, Path, Pattern, RecordFields, RecordValues, SinglePattern, TokenTree, Ty, UseTrees, Variants, Visibility};
 ghost use Rattle.rap_grammar_table.specs.Inclusion.{FollowsExpression, FollowsOther, FollowsType, HoldsBlock, HoldsBrackets, HoldsCall, HoldsContents, HoldsExpression, HoldsFieldList, HoldsFile, HoldsItem, HoldsItemList, HoldsItems, HoldsNodes, HoldsStatements, HoldsType};
 ghost use Rattle.rap_grammar_table.specs.Laws.{HasOneForest, HasOneTree};
 ghost use Rattle.rap_grammar_table.specs.Tops.{file_row, items_row, stmts_row};
@@ -29,6 +29,7 @@ pub fn one_tree_each()
     ensures extern_lists { HasOneTree ExternItems }
     ensures assoc_lists { HasOneTree AssocItems }
     ensures item_lists { HasOneTree ItemList }
+    ensures token_trees { HasOneTree TokenTree }
     ensures files { HasOneForest file_row }
     ensures macro_items { HasOneForest items_row }
     ensures macro_statements { HasOneForest stmts_row }

@@ -96,7 +96,9 @@ fn close_symbols(
 }
 
 /// The symbols of a document, each in the one around it. The errors: they would be longer than the limit, or out of memory.
-/// They are written as far as they are within the limit, and memory is asked for no more.
+/// They are written as far as they are within the limit, and have no more room than that. Beside them memory is asked for
+/// the list of all symbols, for what is open, and for the text of one symbol: it is written whole before it is known to
+/// fit.
 pub fn symbols(alloc: Global, listing: &Listing<'_>) -> Result<String, Fault>
     ensures within { IfOk result (λ text. length (string_bytes text) ≤ LIMIT) }
     ensures why { IfErr result (λ fault. (fault.code ≡ InternalError)

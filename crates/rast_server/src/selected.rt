@@ -94,7 +94,9 @@ fn write_part(
 }
 
 /// What may be selected around each position. The errors: a position is none of the document, the answer would be longer
-/// than the limit, or out of memory. It is written as far as it is within the limit, and memory is asked for no more.
+/// than the limit, or out of memory. The answer is written as far as it is within the limit, and has no more room than
+/// that. Beside it memory is asked for the ranges around one position, and for their text: it is written whole before it
+/// is known to fit.
 pub fn selections(
     alloc: Global,
     listing: &Listing<'_>,

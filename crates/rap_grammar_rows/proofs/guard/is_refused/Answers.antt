@@ -1,7 +1,13 @@
 use Rattle.std.proofs.Common.{ℕ, ◌<◌, ◌≤◌, length, sym, subst, ◌∙◌, arith}
 use Rattle.rap_grammar_rows.specs.Claims.{IsRefused}
-use Rattle.rap_grammar_rows.proofs.Excluded.{refused_by_tokens, refused_at_end}
+use Rattle.rap_grammar_rows.proofs.Excluded.{refused_by_tokens, refused_at_end, refused_before_end}
 use Rattle.rap_grammar_rows.proofs.guard.is_refused.Goals as goal
+
+pub returns-then-end-at : goal.returns-then-end-at
+returns-then-end-at c h =
+    subst (λ (g : ℕ). IsRefused g c.args.input.now c.args.at c.args.end) (sym c.if-guard-eq18.true)
+    (subst (λ (e : ℕ). IsRefused 18 c.args.input.now c.args.at e) (sym c.if-end-at.true)
+    (refused_before_end c.args.input.now c.args.at))
 
 pub returns-then-end-at-eq1 : goal.returns-then-end-at-eq1
 returns-then-end-at-eq1 c h =

@@ -1,4 +1,4 @@
-use Rattle.rap_grammar_table.proofs.OneTree.{one_of_anchored_paths, one_of_arm_lists, one_of_assoc_lists, one_of_blocks, one_of_expressions, one_of_extern_lists, one_of_field_lists, one_of_files, one_of_global_paths, one_of_item_lists, one_of_items, one_of_last_statements, one_of_macro_items, one_of_macro_statements, one_of_metas, one_of_paths, one_of_patterns, one_of_single_patterns, one_of_statements, one_of_types, one_of_use_lists, one_of_value_lists, one_of_variant_lists, one_of_visibilities}
+use Rattle.rap_grammar_table.proofs.OneTree.{one_of_anchored_paths, one_of_arm_lists, one_of_assoc_lists, one_of_blocks, one_of_expressions, one_of_extern_lists, one_of_field_lists, one_of_files, one_of_global_paths, one_of_item_lists, one_of_items, one_of_last_statements, one_of_macro_items, one_of_macro_statements, one_of_metas, one_of_paths, one_of_patterns, one_of_single_patterns, one_of_statements, one_of_token_trees, one_of_types, one_of_use_lists, one_of_value_lists, one_of_variant_lists, one_of_visibilities}
 use Rattle.rap_grammar_table.proofs.table_laws.one_tree_each.Goals as goal
 
 pub returns-clause-types : goal.returns-clause-types
@@ -63,6 +63,9 @@ returns-clause-assoc_lists c = one_of_assoc_lists
 
 pub returns-clause-item_lists : goal.returns-clause-item_lists
 returns-clause-item_lists c = one_of_item_lists
+
+pub returns-clause-token_trees : goal.returns-clause-token_trees
+returns-clause-token_trees c = one_of_token_trees
 
 pub returns-clause-files : goal.returns-clause-files
 returns-clause-files c = one_of_files
