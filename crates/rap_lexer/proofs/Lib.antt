@@ -23,6 +23,7 @@ pub mod OneRun
 pub mod OneToken
 pub mod PlainCharacters
 pub mod PlainNumbers
+pub mod PlainSigns
 pub mod PlainStrings
 pub mod Prefixes
 pub mod RawStrings

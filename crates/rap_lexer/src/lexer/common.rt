@@ -73,6 +73,8 @@ fn byte_token(text: &str) -> Option<CommonToken>
 }
 
 /// The common token that the text begins with, by the class of its first byte.
+///
+/// Words and white space come first: a character alone is left to it only as the last byte.
 #[inline(always)]
 fn token_of_class(edition: Edition, text: &str) -> Option<CommonToken>
     requires { 0 < length text.now }
@@ -85,16 +87,16 @@ fn token_of_class(edition: Edition, text: &str) -> Option<CommonToken>
     ensures contextual { IfSome result (λ r. r.is_contextual ≡ is_contextual r.kind (slice_range text.now 0 r.len)) }
 {
     let class = class_of(text.as_bytes()[0]);
-    if class < WHITE {
+    if class == WORD {
+        word_token(edition, text)
+    } else if class == WHITE {
+        white_token(text)
+    } else if class < WHITE {
         Some(CommonToken {
             kind: SyntaxKind::from_u16(u16::from(class)),
             len: 1,
             is_contextual: false,
         })
-    } else if class == WHITE {
-        white_token(text)
-    } else if class == WORD {
-        word_token(edition, text)
     } else {
         None
     }
