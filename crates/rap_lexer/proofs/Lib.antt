@@ -35,3 +35,4 @@ pub mod Strings
 pub mod TextRuns
 pub mod TokenEnds
 pub mod TokenKinds
+pub mod WhiteEnds
