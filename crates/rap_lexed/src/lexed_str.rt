@@ -164,8 +164,8 @@ fn since_open_with(since: usize, more: usize) -> usize
     (since + more).min(5)
 }
 
-/// Takes the common tokens and plain numbers that stand next, as many as there are that begin before the last byte of
-/// the text: so each has a byte after it to look at. Returns where they end.
+/// Takes the common tokens, plain numbers, and `/` and `#` alone that stand next, as many as there are that begin before
+/// the last byte of the text: so each has a byte after it to look at. Returns where they end.
 #[inline(always)]
 fn take_common(
     edition: Edition,

@@ -91,6 +91,10 @@ module _ (class : Class) where
   pub border : (bs : List ℕ) → IsUtf8 bs → IsCharBoundary bs (length (run_of (is_ascii_in class) bs))
   border = tested_border q q_ascii
 
+  -- where nothing of the class follows the run, it ends there
+  pub stopped_by : (bs : List ℕ) → IsUtf8 bs → chars (after_run (is_ascii_in class) bs) ≡ after_run (is_in class) (chars (after_run (is_ascii_in class) bs)) → chars (drop (length (run_of (is_ascii_in class) bs)) bs) ≡ after_run (is_in class) (chars bs)
+  stopped_by bs u g = rw (after_drop q bs) (g ∙ (ap (λ x. after_run p (chars x)) (sym (after_drop q bs)) ∙ same bs u))
+
   stopped_at : (ys : List ℕ) → IsUtf8 ys → ((c : ℕ) (t : List ℕ) → ys ≡ c ∷ t → q c ≡ false) → get_or ys 0 0 < 128 → chars ys ≡ after_run p (chars ys)
   stopped_at [] u h low = rw chars-nil refl
   stopped_at (c ∷ t) u h low =
@@ -106,5 +110,4 @@ module _ (class : Class) where
       let v : IsUtf8 (after_run q bs) = utf8_rest (run_of q bs) (after_run q bs) (run_ascii bs) (rw e at u) in
       let z : n + 0 ≡ n = omega arith in
       let f : get_or (after_run q bs) 0 0 ≡ get_or bs n 0 = ap (λ x. get_or x 0 0) (sym (after_drop q bs)) ∙ (get_or-drop n bs 0 0 ∙ ap (λ k. get_or bs k 0) z) in
-      let g : chars (after_run q bs) ≡ after_run p (chars (after_run q bs)) = stopped_at (after_run q bs) v (after_head q bs) (omega (arith, f)) in
-      rw (after_drop q bs) (g ∙ (ap (λ x. after_run p (chars x)) (sym (after_drop q bs)) ∙ same bs u))
+      stopped_by bs u (stopped_at (after_run q bs) v (after_head q bs) (omega (arith, f)))

@@ -6,7 +6,7 @@ use Rattle.std.specs.Char.{is_ascii_alphabetic, is_ascii_alphanumeric}
 use Rattle.std.specs.Str.{byte}
 use Rattle.rap_base.specs.TokenKind.{STRING}
 use Rattle.rap_lexer.specs.Class.{is_ascii_in}
-use Rattle.rap_lexer.specs.Common.{is_lone, ends_no_word}
+use Rattle.rap_lexer.specs.Common.{is_lone, begins_white, ends_no_word}
 use Rattle.rap_lexer.specs.First.{single_kind}
 use Rattle.rap_lexer.specs.declared.lexer.common.TheConstants.{CLASSES, LAST_ALONE, WHITE, WORD, OTHER, PAST_ASCII}
 use Rattle.rap_lexer.specs.declared.lexer.run.TheConstants.{HEXADECIMAL}
@@ -68,8 +68,8 @@ past_row b l = are_same _ _ (each (λ b. same (entry b == PAST_ASCII) (nat_lt 12
 pub few_row : (b : ℕ) → b < 256 → entry b < WHITE → entry b < 29
 few_row b l h = ltb-true (entry b) 29 (follows _ _ (each (λ b. not (nat_lt (entry b) WHITE) || nat_lt (entry b) 29) 256 refl b l) (lt-ltb (entry b) WHITE h))
 
-pub alone_row : (b : ℕ) → b < 256 → get_or LAST_ALONE b 0 ≡ (if is_ascii_in White b || nat_lt 127 b then 150 else WHITE)
-alone_row b l = eqb-true _ _ (each (λ b. get_or LAST_ALONE b 0 == (if is_ascii_in White b || nat_lt 127 b then 150 else WHITE)) 256 refl b l)
+pub alone_row : (b : ℕ) → b < 256 → get_or LAST_ALONE b 0 ≡ (if is_ascii_in White b || begins_white b then 150 else WHITE)
+alone_row b l = eqb-true _ _ (each (λ b. get_or LAST_ALONE b 0 == (if is_ascii_in White b || begins_white b then 150 else WHITE)) 256 refl b l)
 
 -- no white space begins a word
 pub no_white : (b : ℕ) → b < 256 → is_ascii_in IdentStart b ≡ true → is_ascii_in White b ≡ false

@@ -8,7 +8,7 @@ use Rattle.rap_base.specs.TokenKind.{IDENT, STRING, WHITESPACE}
 use Rattle.rap_base.specs.TokenTests.{IsTokenKind}
 use Rattle.rap_base.specs.declared.edition.Edition.{Edition}
 use Rattle.rap_lexer.specs.Class.{is_in, is_ascii_in}
-use Rattle.rap_lexer.specs.Common.{is_contextual, is_lone, ends_no_word, next_fits, is_uncommon, IsCommon}
+use Rattle.rap_lexer.specs.Common.{is_contextual, is_lone, begins_white, ends_no_word, next_fits, is_uncommon, IsCommon}
 use Rattle.rap_lexer.specs.First.{First, single_kind}
 use Rattle.rap_lexer.specs.Lexeme.{plain}
 use Rattle.rap_lexer.specs.Run.{next_is, next_in, tail, run_of, after_run}
@@ -22,6 +22,7 @@ use Rattle.rap_lexer.proofs.LoneSigns.{single}
 use Rattle.rap_lexer.proofs.Prefixes.{prefix_is}
 use Rattle.rap_lexer.proofs.Runs.{after_drop, run_prefix}
 use Rattle.rap_lexer.proofs.TokenKinds.{token_kind, word_no_string}
+use Rattle.rap_lexer.proofs.WhiteEnds.{white_ends}
 
 -- an ASCII byte is a character
 pub chars_head : (b : ℕ) (t : List ℕ) → IsUtf8 (b ∷ t) → b < 128 → chars (b ∷ t) ≡ b ∷ chars t
@@ -74,7 +75,7 @@ after_word (d ∷ es) u h =
 
 -- ---- What is no common token
 
-uncommon_white : (b : ℕ) (t : List ℕ) → is_ascii_in White b ≡ true → is_uncommon (b ∷ t) ≡ next_fits (nat_lt 127) (after_run (is_ascii_in White) (b ∷ t))
+uncommon_white : (b : ℕ) (t : List ℕ) → is_ascii_in White b ≡ true → is_uncommon (b ∷ t) ≡ next_fits begins_white (after_run (is_ascii_in White) (b ∷ t))
 uncommon_white b t w = cond-true (is_ascii_in White b) _ _ w
 
 uncommon_word : (b : ℕ) (t : List ℕ) → is_ascii_in White b ≡ false → is_ascii_in IdentStart b ≡ true → is_uncommon (b ∷ t) ≡ next_fits ends_no_word (after_run (is_ascii_in IdentContinue) (b ∷ t))
@@ -102,23 +103,23 @@ white_rest b t p head = ap (after_run (is_in White)) head ∙ cond-true (is_in W
 white_first : (edition : Edition) (b : ℕ) (cs rest : List ℕ) → is_in White b ≡ true → rest ≡ after_run (is_in White) cs → First edition (b ∷ cs) (plain WHITESPACE) rest
 white_first edition b cs rest p e = rw p (refl, e)
 
-pub white_uncommon : (text : List ℕ) (n : ℕ) → is_ascii_in White (get_or text 0 0) ≡ true → n ≡ length (run_of (is_ascii_in White) text) → next_fits (nat_lt 127) (drop n text) ≡ true → is_uncommon text ≡ true
+pub white_uncommon : (text : List ℕ) (n : ℕ) → is_ascii_in White (get_or text 0 0) ≡ true → n ≡ length (run_of (is_ascii_in White) text) → next_fits begins_white (drop n text) ≡ true → is_uncommon text ≡ true
 white_uncommon [] n w e h = cc
-white_uncommon (b ∷ t) n w e h = uncommon_white b t w ∙ (past_run White (nat_lt 127) (b ∷ t) n e ∙ h)
+white_uncommon (b ∷ t) n w e h = uncommon_white b t w ∙ (past_run White begins_white (b ∷ t) n e ∙ h)
 
-pub white_common : (edition : Edition) (text : List ℕ) (n : ℕ) → IsUtf8 text → is_ascii_in White (get_or text 0 0) ≡ true → n ≡ length (run_of (is_ascii_in White) text) → next_fits (nat_lt 127) (drop n text) ≡ false → IsCommon edition text WHITESPACE n
+pub white_common : (edition : Edition) (text : List ℕ) (n : ℕ) → IsUtf8 text → is_ascii_in White (get_or text 0 0) ≡ true → n ≡ length (run_of (is_ascii_in White) text) → next_fits begins_white (drop n text) ≡ false → IsCommon edition text WHITESPACE n
 white_common edition [] n u w e h = cc
 white_common edition (b ∷ t) n u w e h =
     let p = within White b w in
     let head = chars_head b t u (low White b w) in
-    let next : get_or (b ∷ t) (length (run_of (is_ascii_in White) (b ∷ t))) 0 < 128 = subst (λ i. get_or (b ∷ t) i 0 < 128) e (next_low (b ∷ t) n h) in
-    let rest : chars (drop n (b ∷ t)) ≡ after_run (is_in White) (chars t) = ap (λ i. chars (drop i (b ∷ t))) e ∙ (stopped White (b ∷ t) u next ∙ white_rest b t p head) in
+    let next : next_fits begins_white (after_run (is_ascii_in White) (b ∷ t)) ≡ false = past_run White begins_white (b ∷ t) n e ∙ h in
+    let rest : chars (drop n (b ∷ t)) ≡ after_run (is_in White) (chars t) = ap (λ i. chars (drop i (b ∷ t))) e ∙ (white_ends (b ∷ t) u next ∙ white_rest b t p head) in
     record {
       token = subst (λ x. First edition x (plain WHITESPACE) (chars (drop n (b ∷ t)))) (sym head) (white_first edition b (chars t) _ p rest);
       no_string = white_no_string;
       positive = some_run White b n t w e;
       border = subst (λ i. IsCharBoundary (b ∷ t) i) (sym e) (border White (b ∷ t) u);
-      common = uncommon_white b t w ∙ (past_run White (nat_lt 127) (b ∷ t) n e ∙ h);
+      common = uncommon_white b t w ∙ (past_run White begins_white (b ∷ t) n e ∙ h);
     }
 
 -- ---- Words
@@ -267,23 +268,23 @@ lone_common edition (b ∷ t) kind u some h k =
     }
 
 -- white space before an ASCII byte that is none
-white_alone : (edition : Edition) (b d : ℕ) (t : List ℕ) → IsUtf8 (b ∷ d ∷ t) → is_ascii_in White b ≡ true → (is_ascii_in White d || nat_lt 127 d) ≡ false → IsCommon edition (b ∷ d ∷ t) WHITESPACE 1
+white_alone : (edition : Edition) (b d : ℕ) (t : List ℕ) → IsUtf8 (b ∷ d ∷ t) → is_ascii_in White b ≡ true → (is_ascii_in White d || begins_white d) ≡ false → IsCommon edition (b ∷ d ∷ t) WHITESPACE 1
 white_alone edition b d t u w h =
-    let parts = or_parts (is_ascii_in White d) (nat_lt 127 d) h in
+    let parts = or_parts (is_ascii_in White d) (begins_white d) h in
     let run : length (run_of (is_ascii_in White) (b ∷ d ∷ t)) ≡ 1 = ap (λ x. length (if x then b ∷ run_of (is_ascii_in White) (d ∷ t) else [])) w ∙ ap (λ x. length (b ∷ (if x then d ∷ run_of (is_ascii_in White) t else []))) parts.0 in
     white_common edition (b ∷ d ∷ t) 1 u w (sym run) parts.1
 
 -- a byte that is a common token before another one, by its class
 pub alone_common : (edition : Edition) (text : List ℕ) (class last : ℕ) → IsUtf8 text → 1 < length text
     → nat_lt class 151 ≡ is_lone (get_or text 0 0) → (class < 151 → class ≡ single_kind (get_or text 0 0)) → (class == 151) ≡ is_ascii_in White (get_or text 0 0)
-    → last ≡ (if is_ascii_in White (get_or text 1 0) || nat_lt 127 (get_or text 1 0) then 150 else 151) → class ≤ last → IsCommon edition text class 1
+    → last ≡ (if is_ascii_in White (get_or text 1 0) || begins_white (get_or text 1 0) then 150 else 151) → class ≤ last → IsCommon edition text class 1
 alone_common edition [] class last u some lone kind white ends test = absurd (omega (arith, some))
 alone_common edition (b ∷ []) class last u some lone kind white ends test = absurd (omega (arith, some))
 alone_common edition (b ∷ d ∷ t) class last u some lone kind white ends test =
     (elim (nat_lt class 151) as (λ z. nat_lt class 151 ≡ z → IsCommon edition (b ∷ d ∷ t) class 1) [
       | true ↦ λ e. lone_common edition (b ∷ d ∷ t) class u (omega (arith, some)) (sym lone ∙ e) (kind (ltb-true class 151 e))
       | false ↦ λ e.
-          let joins = is_ascii_in White d || nat_lt 127 d in
+          let joins = is_ascii_in White d || begins_white d in
           let least = ltb-false class 151 e in
           let none : joins ≡ false = (elim joins as (λ z. joins ≡ z → z ≡ false) [
             | true ↦ λ j. absurd (omega (arith, test, least, ends ∙ ap (λ x. if x then 150 else 151) j))

@@ -4,7 +4,7 @@ use Rattle.std.proofs.lemmas.Bool.{and_parts, leb-true, lt-ltb}
 use Rattle.std.specs.Prelude.{nat_le, nat_lt}
 use Rattle.rap_base.specs.declared.edition.Edition.{Edition}
 use Rattle.rap_lexer.specs.Class.{is_in, is_ascii_in}
-use Rattle.rap_lexer.specs.First.{First, IsSign, IsSlash}
+use Rattle.rap_lexer.specs.First.{First, IsSign, IsSlash, IsHash}
 use Rattle.rap_lexer.specs.Number.{IsNumber}
 use Rattle.rap_lexer.specs.Quoted.{IsTick}
 use Rattle.rap_lexer.specs.declared.lexer.lexeme.Lexeme.{Lexeme}
@@ -25,6 +25,9 @@ module _ (edition : Edition) (cs : List ℕ) (token : Lexeme) (rest : List ℕ) 
 
   pub tick_first : (c : ℕ) (text : List ℕ) → text ≡ c ∷ cs → c ≡ 39 → IsTick cs token rest → First edition text token rest
   tick_first c text e q h = rw (e, q) (by_sign 39 (without White 39 (omega arith) refl) (without IdentStart 39 (omega arith) (sym (starts 39))) refl h)
+
+  pub hash_first : (c : ℕ) (text : List ℕ) → text ≡ c ∷ cs → c ≡ 35 → IsHash edition cs token rest → First edition text token rest
+  hash_first c text e q h = rw (e, q) (by_sign 35 (without White 35 (omega arith) refl) (without IdentStart 35 (omega arith) (sym (starts 35))) refl h)
 
   pub digit_first : (c : ℕ) (text : List ℕ) → text ≡ c ∷ cs → is_in Digit c ≡ true → IsNumber c cs token rest → First edition text token rest
   digit_first c text e d h =

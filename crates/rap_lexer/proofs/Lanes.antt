@@ -1,5 +1,5 @@
 -- Tests of sixteen bytes at a time.
-use Rattle.std.proofs.Common.{◌≡◌, ℕ, zero, suc, ◌+◌, ◌-◌, ◌%◌, ◌^◌, ◌<◌, ◌≤◌, List, [], ◌∷◌, Bool, true, false, not, ◌&&◌, ◌||◌, ◌==◌, nat_lt, cond, leb, eqb, length, get_or, drop, length-drop, map, replicate, bit_and, bit_or, refl, sym, ap, ◌∙◌, arith}
+use Rattle.std.proofs.Common.{◌≡◌, ℕ, zero, suc, ◌+◌, ◌-◌, ◌*◌, ◌%◌, ◌^◌, ◌<◌, ◌≤◌, List, [], ◌∷◌, Bool, true, false, not, ◌&&◌, ◌||◌, ◌==◌, nat_lt, cond, leb, eqb, length, get_or, drop, length-drop, map, replicate, bit_and, bit_or, refl, sym, ap, ◌∙◌, arith}
 use Rattle.std.specs.Bool.{beq}
 use Rattle.std.specs.Char.{is_ascii_alphanumeric}
 use Rattle.std.specs.Simd.Lanes.{zip2, mask_l, top, chunk, Each1}
@@ -77,6 +77,30 @@ white_lanes v long fits =
     let others = zip2_of_maps at_least (λ _. 5) (λ x. sub x 9) v (splat 5) (zip2_of_maps sub (λ x. x) (λ _. 9) v (itself v) (splat 9)) in
     let spaces = zip2_of_maps apart (λ x. x) (λ _. 32) v (itself v) (splat 32) in
     masked white_lane _ v _ long fits white_test (zip2_of_maps bit_and (λ x. at_least 5 (sub x 9)) (λ x. apart x 32) v others spaces)
+
+space_test : (x : ℕ) → x < 256 → top 7 (apart x 32) ≡ not (x == 32)
+unfolding all_under
+space_test x l = same _ _ (under (λ x. beq (top 7 (apart x 32)) (not (x == 32))) 256 refl x l)
+
+pub space_lanes : (v : List ℕ) → length v ≡ 16 → Each1 (λ x. x < 256) v → mask_l (map (top 7) (zip2 apart v (replicate 16 32))) % 2 ^ 64 ≡ mask_l (map (λ b. not (b == 32)) v)
+space_lanes v long fits = masked (λ x. apart x 32) _ v _ long fits space_test (zip2_of_maps apart (λ x. x) (λ _. 32) v (itself v) (splat_is_map v 16 32 long))
+
+no_bit : (x : Bool) (m : ℕ) → cond {A = ℕ} x 1 0 + 2 * m ≡ 0 → (x ≡ false) × (m ≡ 0)
+no_bit true m h = absurd (omega (arith, h))
+no_bit false m h = (refl, omega (arith, h))
+
+is_so : (x : Bool) → not x ≡ false → x ≡ true
+is_so true h = refl
+is_so false h = cc
+
+-- where all bytes are spaces none is anything but white space
+pub spaces_white : (v : List ℕ) → mask_l (map (λ b. not (b == 32)) v) ≡ 0 → mask_l (map (λ b. not (is_ascii_in White b)) v) ≡ 0
+spaces_white [] h = refl
+spaces_white (b ∷ v) h =
+    let parts = no_bit (not (b == 32)) (mask_l (map (λ x. not (x == 32)) v)) h in
+    let is : b ≡ 32 = eqb-true b 32 (is_so (b == 32) parts.0) in
+    let bit : cond {A = ℕ} (not (is_ascii_in White b)) 1 0 ≡ 0 = ap (λ x. cond {A = ℕ} (not (is_ascii_in White x)) 1 0) is in
+    omega (arith, bit, spaces_white v parts.1)
 
 abbrev word_lane : ℕ → ℕ
 word_lane x = bit_and (bit_and (bit_and (at_least 26 (sub x 97)) (at_least 26 (sub x 65))) (at_least 10 (sub x 48))) (apart x 95)

@@ -23,6 +23,7 @@ pub mod OneRun
 pub mod OneToken
 pub mod PlainCharacters
 pub mod PlainNumbers
+pub mod PlainSigns
 pub mod PlainStrings
 pub mod Prefixes
 pub mod RawStrings
@@ -34,3 +35,4 @@ pub mod Strings
 pub mod TextRuns
 pub mod TokenEnds
 pub mod TokenKinds
+pub mod WhiteEnds

@@ -18,6 +18,10 @@ is_lone b = nat_lt b 128 && (not (single_kind b == ERROR) && not ((b == byte "/"
 abbrev pub ends_no_word : ℕ → Bool
 ends_no_word b = nat_lt 127 b || ((b == byte "\"") || ((b == byte "'") || (b == byte "#")))
 
+-- a character of white space past ASCII begins with the byte: U+0085, U+200E, U+200F, U+2028 or U+2029
+abbrev pub begins_white : ℕ → Bool
+begins_white b = (b == 0xc2) || (b == 0xe2)
+
 -- such a byte stands first
 abbrev pub next_fits : (ℕ → Bool) → List ℕ → Bool
 next_fits p [] = false
@@ -27,7 +31,7 @@ next_fits p (b ∷ bs) = p b
 abbrev pub is_uncommon : List ℕ → Bool
 is_uncommon [] = true
 is_uncommon (b ∷ bs) =
-    if is_ascii_in White b then next_fits (nat_lt 127) (after_run (is_ascii_in White) (b ∷ bs))
+    if is_ascii_in White b then next_fits begins_white (after_run (is_ascii_in White) (b ∷ bs))
     else (if is_ascii_in IdentStart b then next_fits ends_no_word (after_run (is_ascii_in IdentContinue) (b ∷ bs))
     else not (is_lone b))
 

@@ -6,7 +6,7 @@ use Rattle.rap_base.specs.TokenTests.{IsTokenKind}
 use Rattle.rap_base.specs.declared.edition.Edition.{Edition}
 use Rattle.rap_lexer.specs.Class.{is_ascii_in}
 use Rattle.rap_lexer.specs.Common.{next_fits, is_uncommon}
-use Rattle.rap_lexer.specs.First.{First}
+use Rattle.rap_lexer.specs.First.{First, is_reserved_hash}
 use Rattle.rap_lexer.specs.Lexeme.{plain}
 use Rattle.rap_lexer.specs.Number.{after_sign, starts_exponent}
 use Rattle.rap_lexer.specs.Run.{next_is, tail, after_run}
@@ -116,9 +116,21 @@ abbrev pub is_plain_number : List ℕ → Bool
 is_plain_number text =
     next_fits (is_ascii_in Digit) text && (has_plain_digits text && is_plain_past_digits (after_plain_digits text))
 
--- The text begins with a token that is taken at once: a common one, or a plain number.
-abbrev pub is_quick : List ℕ → Bool
-is_quick text = not (is_uncommon text) || is_plain_number text
+-- The text begins with a `/` that begins no comment.
+abbrev pub is_plain_slash : List ℕ → Bool
+is_plain_slash text = next_is (byte "/") text && (not (next_is (byte "/") (drop 1 text)) && not (next_is (byte "*") (drop 1 text)))
+
+-- The text begins with a `#` that begins no reserved guarded string.
+abbrev pub is_plain_hash : Edition → List ℕ → Bool
+is_plain_hash edition text = next_is (byte "#") text && not (is_reserved_hash edition (drop 1 text))
+
+-- The text begins with a `/` or `#` that is a token of its own.
+abbrev pub is_plain_sign : Edition → List ℕ → Bool
+is_plain_sign edition text = is_plain_slash text || is_plain_hash edition text
+
+-- The text begins with a token that is taken at once: a common one, a plain number, or a `/` or `#` alone.
+abbrev pub is_quick : Edition → List ℕ → Bool
+is_quick edition text = not (is_uncommon text) || (is_plain_number text || is_plain_sign edition text)
 
 -- Past this many bytes these are left.
 pub record Leaves (bs : List ℕ) (n : ℕ) (rest : List ℕ) : Type 0 where
@@ -133,3 +145,12 @@ pub record IsPlainNumber (text : List ℕ) (kind n : ℕ) : Type 0 where
   pub positive : 0 < n
   pub border : IsCharBoundary text n
   pub plain : is_plain_number text ≡ true
+
+-- The text begins with a `/` or `#` alone, of this kind and this length in bytes.
+pub record IsPlainSign (edition : Edition) (text : List ℕ) (kind n : ℕ) : Type 0 where
+  pub token : First edition (chars text) (plain kind) (chars (drop n text))
+  pub sign : IsTokenKind kind
+  pub no_string : kind ≢ STRING
+  pub positive : 0 < n
+  pub border : IsCharBoundary text n
+  pub plain : is_plain_sign edition text ≡ true

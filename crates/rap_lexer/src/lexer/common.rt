@@ -3,7 +3,7 @@ ghost use Rattle.std.specs.Prelude.{◌≡◌, ◌≢◌, ◌<◌, ◌==◌, ◌
 ghost use Rattle.rap_base.specs.TokenKind.{STRING};
 ghost use Rattle.rap_base.specs.TokenTests.{IsTokenKind};
 ghost use Rattle.rap_lexer.specs.Class.{is_ascii_in};
-ghost use Rattle.rap_lexer.specs.Common.{is_contextual, is_lone, ends_no_word, is_uncommon, IsCommon};
+ghost use Rattle.rap_lexer.specs.Common.{is_contextual, is_lone, begins_white, ends_no_word, is_uncommon, IsCommon};
 ghost use Rattle.rap_lexer.specs.First.{First, single_kind};
 ghost use Rattle.rap_lexer.specs.Lexeme.{plain};
 ghost use Rattle.rap_base.specs.declared.edition.Edition.{Edition};
@@ -27,9 +27,9 @@ pub struct CommonToken {
 /// Returns the first token of `text`, which must not be empty, if it is a common one, and otherwise `None`:
 /// [`first_token`](crate::lexer::first_token) takes any.
 ///
-/// Common are a character that is a token of its own whatever follows it; white space in ASCII, unless a character
-/// past ASCII follows it; and a word in ASCII, unless a quote, a `#` or a character past ASCII follows it. There is
-/// nothing to report about any of them.
+/// Common are a character that is a token of its own whatever follows it; white space in ASCII, unless a byte follows
+/// it with which white space past ASCII begins; and a word in ASCII, unless a quote, a `#` or a character past ASCII
+/// follows it. There is nothing to report about any of them.
 #[inline(always)]
 pub fn common_token(edition: Edition, text: &str) -> Option<CommonToken>
     requires { 0 < length text.now }
@@ -73,6 +73,8 @@ fn byte_token(text: &str) -> Option<CommonToken>
 }
 
 /// The common token that the text begins with, by the class of its first byte.
+///
+/// Words and white space come first: a character alone is left to it only as the last byte.
 #[inline(always)]
 fn token_of_class(edition: Edition, text: &str) -> Option<CommonToken>
     requires { 0 < length text.now }
@@ -85,16 +87,16 @@ fn token_of_class(edition: Edition, text: &str) -> Option<CommonToken>
     ensures contextual { IfSome result (λ r. r.is_contextual ≡ is_contextual r.kind (slice_range text.now 0 r.len)) }
 {
     let class = class_of(text.as_bytes()[0]);
-    if class < WHITE {
+    if class == WORD {
+        word_token(edition, text)
+    } else if class == WHITE {
+        white_token(text)
+    } else if class < WHITE {
         Some(CommonToken {
             kind: SyntaxKind::from_u16(u16::from(class)),
             len: 1,
             is_contextual: false,
         })
-    } else if class == WHITE {
-        white_token(text)
-    } else if class == WORD {
-        word_token(edition, text)
     } else {
         None
     }
@@ -109,7 +111,7 @@ fn white_token(text: &str) -> Option<CommonToken>
 {
     let bytes = text.as_bytes();
     let n = white_run(bytes);
-    if n < bytes.len() && PAST_ASCII == class_of(bytes[n]) {
+    if n < bytes.len() && begins_white(bytes[n]) {
         None
     } else {
         Some(CommonToken {
@@ -118,6 +120,15 @@ fn white_token(text: &str) -> Option<CommonToken>
             is_contextual: false,
         })
     }
+}
+
+/// Whether white space past ASCII begins with the byte: U+0085 with the first of the two, U+200E, U+200F, U+2028 and
+/// U+2029 with the other.
+#[inline(always)]
+fn begins_white(b: u8) -> bool
+    ensures { result ≡ begins_white b }
+{
+    b == 0xc2 || b == 0xe2
 }
 
 /// The word that the text begins with.
@@ -155,11 +166,11 @@ pub fn class_of(b: u8) -> u8
     CLASSES[usize::from(b)]
 }
 
-/// The last class of a byte that is a token of its own before this byte: before white space and characters past ASCII,
+/// The last class of a byte that is a token of its own before this byte: before what is white space, or may begin some,
 /// white space is none.
 #[inline(always)]
 fn last_alone(b: u8) -> u8
-    ensures { result ≡ (if is_ascii_in White b || nat_lt 127 b then 150 else WHITE) }
+    ensures { result ≡ (if is_ascii_in White b || begins_white b then 150 else WHITE) }
 {
     LAST_ALONE[usize::from(b)]
 }
@@ -226,12 +237,12 @@ static LAST_ALONE: [u8; 256] = [
     W,  W,  W,  W,  W,  W,  W,  W,  W,  W,  W,  W,  W,  W,  W,  W, // 0x50
     W,  W,  W,  W,  W,  W,  W,  W,  W,  W,  W,  W,  W,  W,  W,  W, // 0x60
     W,  W,  W,  W,  W,  W,  W,  W,  W,  W,  W,  W,  W,  W,  W,  W, // 0x70
-    B,  B,  B,  B,  B,  B,  B,  B,  B,  B,  B,  B,  B,  B,  B,  B, // 0x80
-    B,  B,  B,  B,  B,  B,  B,  B,  B,  B,  B,  B,  B,  B,  B,  B, // 0x90
-    B,  B,  B,  B,  B,  B,  B,  B,  B,  B,  B,  B,  B,  B,  B,  B, // 0xa0
-    B,  B,  B,  B,  B,  B,  B,  B,  B,  B,  B,  B,  B,  B,  B,  B, // 0xb0
-    B,  B,  B,  B,  B,  B,  B,  B,  B,  B,  B,  B,  B,  B,  B,  B, // 0xc0
-    B,  B,  B,  B,  B,  B,  B,  B,  B,  B,  B,  B,  B,  B,  B,  B, // 0xd0
-    B,  B,  B,  B,  B,  B,  B,  B,  B,  B,  B,  B,  B,  B,  B,  B, // 0xe0
-    B,  B,  B,  B,  B,  B,  B,  B,  B,  B,  B,  B,  B,  B,  B,  B, // 0xf0
+    W,  W,  W,  W,  W,  W,  W,  W,  W,  W,  W,  W,  W,  W,  W,  W, // 0x80
+    W,  W,  W,  W,  W,  W,  W,  W,  W,  W,  W,  W,  W,  W,  W,  W, // 0x90
+    W,  W,  W,  W,  W,  W,  W,  W,  W,  W,  W,  W,  W,  W,  W,  W, // 0xa0
+    W,  W,  W,  W,  W,  W,  W,  W,  W,  W,  W,  W,  W,  W,  W,  W, // 0xb0
+    W,  W,  B,  W,  W,  W,  W,  W,  W,  W,  W,  W,  W,  W,  W,  W, // 0xc0
+    W,  W,  W,  W,  W,  W,  W,  W,  W,  W,  W,  W,  W,  W,  W,  W, // 0xd0
+    W,  W,  B,  W,  W,  W,  W,  W,  W,  W,  W,  W,  W,  W,  W,  W, // 0xe0
+    W,  W,  W,  W,  W,  W,  W,  W,  W,  W,  W,  W,  W,  W,  W,  W, // 0xf0
 ];

@@ -1,5 +1,5 @@
 //! Scans of sixteen bytes at a time.
-ghost use Rattle.std.specs.Prelude.{◌≡◌, ◌≢◌, ◌<◌, ◌≤◌, ℕ, not, map, length};
+ghost use Rattle.std.specs.Prelude.{◌≡◌, ◌≢◌, ◌<◌, ◌≤◌, ◌==◌, ℕ, not, map, length};
 ghost use Rattle.std.specs.Int.{bit_at};
 ghost use Rattle.std.specs.Simd.Lanes.{mask_l};
 ghost use Rattle.rap_lexer.specs.Class.{is_in, is_ascii_in};
@@ -9,9 +9,30 @@ ghost use Rattle.rap_lexer.specs.declared.lexer.run.Class.TheVariants.{White, In
 use crate::lexer::run::{Class, any_run, byte_run};
 use std::simd::prelude::*;
 
-/// A bit for each byte that is no ASCII white space, the lowest for the first byte.
+/// A bit for each byte that is no ASCII white space, the lowest for the first byte. Of long indentation by spaces one
+/// comparison tells it.
 #[inline(always)]
 pub fn not_white(bytes: u8x16) -> u64
+    ensures { result ≡ mask_l (map (λ b. not (is_ascii_in White b)) bytes) }
+{
+    if not_space(bytes) == 0 {
+        0
+    } else {
+        not_any_white(bytes)
+    }
+}
+
+/// A bit for each byte that is no space, the lowest for the first byte.
+#[inline(always)]
+fn not_space(bytes: u8x16) -> u64
+    ensures { result ≡ mask_l (map (λ b. not (b == 32)) bytes) }
+{
+    bytes.simd_ne(u8x16::splat(b' ')).to_bitmask()
+}
+
+/// A bit for each byte that is no ASCII white space, the lowest for the first byte.
+#[inline(always)]
+fn not_any_white(bytes: u8x16) -> u64
     ensures { result ≡ mask_l (map (λ b. not (is_ascii_in White b)) bytes) }
 {
     let others = (bytes - u8x16::splat(9)).simd_ge(u8x16::splat(5));

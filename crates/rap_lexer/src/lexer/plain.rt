@@ -1,13 +1,13 @@
-//! Tokens that are taken at once: common ones, and plain numbers.
+//! Tokens that are taken at once: common ones, plain numbers, and `/` and `#` alone.
 ghost use Rattle.std.specs.Prelude.{◌≡◌, ◌≢◌, ◌<◌, IfSome, MatchOption, nat_lt, false, true, length, chars, drop, slice_range, IsCharBoundary};
 ghost use Rattle.rap_base.specs.TokenKind.{STRING};
 ghost use Rattle.rap_base.specs.TokenTests.{IsTokenKind};
 ghost use Rattle.rap_lexer.specs.Class.{is_ascii_in};
 ghost use Rattle.rap_lexer.specs.Common.{is_contextual, next_fits};
-ghost use Rattle.rap_lexer.specs.First.{First};
+ghost use Rattle.rap_lexer.specs.First.{First, is_reserved_hash};
 ghost use Rattle.rap_lexer.specs.Lexeme.{plain};
 ghost use Rattle.rap_lexer.specs.Number.{after_sign};
-ghost use Rattle.rap_lexer.specs.Plain.{begins_suffix, has_plain_suffix, after_plain_suffix, has_plain_power, after_plain_power, has_plain_exponent, after_plain_exponent, has_plain_end, after_plain_end, kind_with_end, ends_before_dot, has_plain_fraction, after_plain_fraction, is_plain_past_digits, after_past_digits, kind_past_digits, is_based, is_binary, is_digit_of, has_plain_digits, after_plain_digits, is_plain_number, is_quick, IsPlainNumber, Leaves};
+ghost use Rattle.rap_lexer.specs.Plain.{begins_suffix, has_plain_suffix, after_plain_suffix, has_plain_power, after_plain_power, has_plain_exponent, after_plain_exponent, has_plain_end, after_plain_end, kind_with_end, ends_before_dot, has_plain_fraction, after_plain_fraction, is_plain_past_digits, after_past_digits, kind_past_digits, is_based, is_binary, is_digit_of, has_plain_digits, after_plain_digits, is_plain_number, is_plain_slash, is_plain_hash, is_plain_sign, is_quick, IsPlainNumber, IsPlainSign, Leaves};
 ghost use Rattle.rap_lexer.specs.Run.{next_is, after_run};
 ghost use Rattle.rap_lexer.specs.declared.lexer.run.Class.TheVariants.{Digit};
 
@@ -20,10 +20,11 @@ use rap_base::syntax_kind::SyntaxKind;
 /// Returns the first token of `text`, which must not be empty, if it can be taken at once, and otherwise `None`:
 /// [`first_token`](crate::lexer::first_token) takes any.
 ///
-/// Taken at once are the common tokens and plain numbers. A number is plain if a decimal digit stands at once after `0b`
-/// and `0o`, a hexadecimal one after `0x`, and a decimal one after the letter and the optional sign of an exponent; if its
-/// suffix is of ASCII; and if no character past ASCII stands directly behind it, or behind a dot that directly follows its
-/// first digits. There is nothing to report about any of them.
+/// Taken at once are the common tokens, plain numbers, and a `/` or `#` alone: neither `/` nor `*` follows the one, and
+/// from the edition 2024 on neither `"` nor `#` the other. A number is plain if a decimal digit stands at once after `0b`
+/// and `0o`, a hexadecimal one after `0x`, and a decimal one after the letter and the optional sign of an exponent; if
+/// its suffix is of ASCII; and if no character past ASCII stands directly behind it, or behind a dot that directly
+/// follows its first digits. There is nothing to report about any of them.
 #[inline(always)]
 pub fn quick_token(edition: Edition, text: &str) -> Option<CommonToken>
     requires { 0 < length text.now }
@@ -32,13 +33,72 @@ pub fn quick_token(edition: Edition, text: &str) -> Option<CommonToken>
     ensures no_string { IfSome result (λ r. r.kind ≢ STRING) }
     ensures positive { IfSome result (λ r. 0 < r.len) }
     ensures border { IfSome result (λ r. IsCharBoundary text.now r.len) }
-    ensures quick { MatchOption result (is_quick text.now ≡ false) (λ _. is_quick text.now ≡ true) }
+    ensures quick { MatchOption result (is_quick edition text.now ≡ false) (λ _. is_quick edition text.now ≡ true) }
     ensures contextual { IfSome result (λ r. r.is_contextual ≡ is_contextual r.kind (slice_range text.now 0 r.len)) }
 {
     match common_token(edition, text) {
         Some(token) => Some(token),
-        None => plain_number(text),
+        None => match plain_number(text) {
+            Some(token) => Some(token),
+            None => plain_sign(edition, text),
+        },
     }
+}
+
+/// The `/` or `#` that the text begins with, if it is a token of its own by the byte after it.
+///
+/// The loop that takes the common tokens need not be left for one.
+#[inline(always)]
+fn plain_sign(edition: Edition, text: &str) -> Option<CommonToken>
+    ensures sign { MatchOption result (is_plain_sign edition text.now ≡ false) (λ r. IsPlainSign edition text.now r.kind r.len) }
+    ensures contextual { IfSome result (λ r. r.is_contextual ≡ is_contextual r.kind (slice_range text.now 0 r.len)) }
+{
+    let bytes = text.as_bytes();
+    if is_plain_slash(bytes) {
+        Some(CommonToken {
+            kind: SyntaxKind::SLASH,
+            len: 1,
+            is_contextual: false,
+        })
+    } else if is_plain_hash(edition, bytes) {
+        Some(CommonToken {
+            kind: SyntaxKind::POUND,
+            len: 1,
+            is_contextual: false,
+        })
+    } else {
+        None
+    }
+}
+
+/// Whether the bytes begin with a `/` that begins no comment.
+#[inline(always)]
+fn is_plain_slash(bytes: &[u8]) -> bool
+    ensures { result ≡ is_plain_slash bytes.now }
+{
+    if !is_next(bytes, b'/') {
+        return false;
+    }
+    !is_next(&bytes[1..], b'/') && !is_next(&bytes[1..], b'*')
+}
+
+/// Whether the bytes begin with a `#` that begins no reserved guarded string.
+#[inline(always)]
+fn is_plain_hash(edition: Edition, bytes: &[u8]) -> bool
+    ensures { result ≡ is_plain_hash edition bytes.now }
+{
+    if !is_next(bytes, b'#') {
+        return false;
+    }
+    !is_reserved_after(edition, &bytes[1..])
+}
+
+/// Whether a `#` before these bytes begins a reserved guarded string.
+#[inline(always)]
+fn is_reserved_after(edition: Edition, bytes: &[u8]) -> bool
+    ensures { result ≡ is_reserved_hash edition bytes.now }
+{
+    edition.at_least_2024() && (is_next(bytes, b'"') || is_next(bytes, b'#'))
 }
 
 /// The plain number that the text begins with.
@@ -47,29 +107,33 @@ fn plain_number(text: &str) -> Option<CommonToken>
     ensures number { MatchOption result (is_plain_number text.now ≡ false) (λ r. IsPlainNumber text.now r.kind r.len) }
     ensures contextual { IfSome result (λ r. r.is_contextual ≡ is_contextual r.kind (slice_range text.now 0 r.len)) }
 {
-    if begins_with(text.as_bytes(), Class::Digit) {
-        number_of(text)
-    } else {
-        None
+    if !begins_with(text.as_bytes(), Class::Digit) {
+        return None;
     }
+    let end = number_of(text)?;
+    Some(CommonToken {
+        kind: end.kind,
+        len: end.len,
+        is_contextual: false,
+    })
 }
 
-/// The same, of a text that begins with a digit.
+/// Where the plain number ends that a text begins with, which begins with a digit.
 ///
-/// It stands apart, since few tokens are numbers: the loop that takes the common ones is faster without it.
+/// It stands apart, since few tokens are numbers: the loop that takes the common ones is faster without it. It returns no
+/// [`CommonToken`]: were it that loop's token itself, each token would go through memory.
 #[inline(never)]
-fn number_of(text: &str) -> Option<CommonToken>
+fn number_of(text: &str) -> Option<NumberEnd>
     requires { next_fits (is_ascii_in Digit) text.now ≡ true }
     ensures number { MatchOption result (is_plain_number text.now ≡ false) (λ r. IsPlainNumber text.now r.kind r.len) }
-    ensures contextual { IfSome result (λ r. r.is_contextual ≡ is_contextual r.kind (slice_range text.now 0 r.len)) }
+    ensures contextual { IfSome result (λ r. false ≡ is_contextual r.kind (slice_range text.now 0 r.len)) }
 {
     let bytes = text.as_bytes();
     let n = first_digits(bytes)?;
     let end = past_digits(&bytes[n..])?;
-    Some(CommonToken {
+    Some(NumberEnd {
         kind: end.kind,
         len: n + end.len,
-        is_contextual: false,
     })
 }
 

@@ -2,7 +2,7 @@
 ghost use Rattle.std.specs.Prelude.{◌≡◌, ◌<◌, ◌≤◌, ℕ, false, length};
 ghost use Rattle.rap_lexer.specs.Class.{is_hex_digit, is_in, is_ascii_in};
 ghost use Rattle.rap_lexer.specs.Run.{next_in, run_of, after_run, after_suffix};
-ghost use Rattle.rap_lexer.specs.declared.lexer.run.Class.TheVariants.{HexOrUnderscore};
+ghost use Rattle.rap_lexer.specs.declared.lexer.run.Class.TheVariants.{IdentContinue, HexOrUnderscore};
 
 use crate::lexer::cursor::Cursor;
 use crate::lexer::lanes::{white_run, word_run};
@@ -55,6 +55,7 @@ pub fn is_in(class: Class, c: char) -> bool
 }
 
 /// Whether the character is in the class, ASCII or not.
+#[inline(always)]
 fn is_any_in(class: Class, c: char) -> bool
     ensures { result ≡ is_in class c }
 {
@@ -224,8 +225,33 @@ pub fn eat_text(cursor: &mut Cursor<'_>, class: Class)
 }
 
 /// Takes the characters of the class that stand next, one by one.
-#[inline(never)]
+#[inline(always)]
 fn eat_any(cursor: &mut Cursor<'_>, class: Class)
+    ensures { cursor.new ≡ after_run (is_in class) cursor.old }
+{
+    match class {
+        Class::IdentContinue => eat_continues(cursor),
+        _ => eat_each(cursor, class),
+    }
+}
+
+/// Takes the later characters of an identifier that stand next, one by one. The class is known: each is looked up at
+/// once in the table.
+#[inline(never)]
+fn eat_continues(cursor: &mut Cursor<'_>)
+    ensures { cursor.new ≡ after_run (is_in IdentContinue) cursor.old }
+{
+    'run: while let Some(c) = cursor.first() {
+        if !unicode_ident::is_xid_continue(c) {
+            break;
+        }
+        let _ = cursor.bump();
+    }
+}
+
+/// Takes the characters of any class that stand next, one by one.
+#[inline(never)]
+fn eat_each(cursor: &mut Cursor<'_>, class: Class)
     ensures { cursor.new ≡ after_run (is_in class) cursor.old }
 {
     'run: while let Some(c) = cursor.first() {

@@ -28,26 +28,26 @@ returns-then-class-lt-WHITE-clause-no_string c = (lone c).no_string
 pub returns-then-class-lt-WHITE-clause-common : goal.returns-then-class-lt-WHITE-clause-common
 returns-then-class-lt-WHITE-clause-common c = (lone c).common
 
-pub returns-then-class-clause-kind : goal.returns-then-class-clause-kind
-returns-then-class-clause-kind c = if_some _ _ _ c.white_token.result (λ r h. common_kind c.args.edition c.args.text.now r.kind r.len (h c.args.edition)) c.white_token.ensures.token
-
-pub returns-then-class-clause-token : goal.returns-then-class-clause-token
-returns-then-class-clause-token c = if_some _ _ _ c.white_token.result (λ r h. (h c.args.edition).token) c.white_token.ensures.token
-
-pub returns-then-class-clause-no_string : goal.returns-then-class-clause-no_string
-returns-then-class-clause-no_string c = if_some _ _ _ c.white_token.result (λ r h. (h c.args.edition).no_string) c.white_token.ensures.token
-
-pub returns-then-class-clause-positive : goal.returns-then-class-clause-positive
-returns-then-class-clause-positive c = if_some _ _ _ c.white_token.result (λ r h. (h c.args.edition).positive) c.white_token.ensures.token
-
-pub returns-then-class-clause-border : goal.returns-then-class-clause-border
-returns-then-class-clause-border c = if_some _ _ _ c.white_token.result (λ r h. (h c.args.edition).border) c.white_token.ensures.token
-
-pub returns-then-class-clause-common : goal.returns-then-class-clause-common
-returns-then-class-clause-common c = match_some _ _ _ c.white_token.result (λ r h. (h c.args.edition).common) c.white_token.ensures.token
-
 pub returns-then-class-2-clause-kind : goal.returns-then-class-2-clause-kind
-returns-then-class-2-clause-kind c = if_some _ _ _ c.word_token.result (λ r h. common_kind c.args.edition c.args.text.now r.kind r.len h) c.word_token.ensures.token
+returns-then-class-2-clause-kind c = if_some _ _ _ c.white_token.result (λ r h. common_kind c.args.edition c.args.text.now r.kind r.len (h c.args.edition)) c.white_token.ensures.token
+
+pub returns-then-class-2-clause-token : goal.returns-then-class-2-clause-token
+returns-then-class-2-clause-token c = if_some _ _ _ c.white_token.result (λ r h. (h c.args.edition).token) c.white_token.ensures.token
+
+pub returns-then-class-2-clause-no_string : goal.returns-then-class-2-clause-no_string
+returns-then-class-2-clause-no_string c = if_some _ _ _ c.white_token.result (λ r h. (h c.args.edition).no_string) c.white_token.ensures.token
+
+pub returns-then-class-2-clause-positive : goal.returns-then-class-2-clause-positive
+returns-then-class-2-clause-positive c = if_some _ _ _ c.white_token.result (λ r h. (h c.args.edition).positive) c.white_token.ensures.token
+
+pub returns-then-class-2-clause-border : goal.returns-then-class-2-clause-border
+returns-then-class-2-clause-border c = if_some _ _ _ c.white_token.result (λ r h. (h c.args.edition).border) c.white_token.ensures.token
+
+pub returns-then-class-2-clause-common : goal.returns-then-class-2-clause-common
+returns-then-class-2-clause-common c = match_some _ _ _ c.white_token.result (λ r h. (h c.args.edition).common) c.white_token.ensures.token
+
+pub returns-then-class-clause-kind : goal.returns-then-class-clause-kind
+returns-then-class-clause-kind c = if_some _ _ _ c.word_token.result (λ r h. common_kind c.args.edition c.args.text.now r.kind r.len h) c.word_token.ensures.token
 
 pub returns-then-class-lt-WHITE-clause-contextual : goal.returns-then-class-lt-WHITE-clause-contextual
 returns-then-class-lt-WHITE-clause-contextual c = sym (lone_plain c.from_u16.result c.class_of-class.result (slice_range c.args.text.now 0 1) (c.from_u16.ensures ∙ c.from.ensures) (c.class_of-class.ensures.few c.if-class-lt-WHITE.true))

@@ -1,26 +1,25 @@
-use Rattle.std.proofs.Common.{◌≡◌, false, true, nat_lt, get_or, drop, sym, ◌∙◌, arith}
-use Rattle.std.proofs.lemmas.Bool.{eq-eqb, ne_eqb}
-use Rattle.rap_lexer.specs.Common.{next_fits}
+use Rattle.std.proofs.Common.{◌≡◌, false, true, get_or, drop, sym, ◌∙◌, arith}
+use Rattle.rap_lexer.specs.Common.{begins_white, next_fits}
 use Rattle.rap_lexer.proofs.CommonTokens.{next_at, next_end, white_common, white_uncommon}
 use Rattle.rap_lexer.proofs.lexer.common.white_token.Goals as goal
-use Rattle.rap_lexer.proofs.lexer.common.white_token.Goals.{else-n-bytes-via-then-n-bytes+else-class_of, else-n-bytes-via-else-n-bytes}
+use Rattle.rap_lexer.proofs.lexer.common.white_token.Goals.{else-n-bytes-via-then-n-bytes+else-begins_white, else-n-bytes-via-else-n-bytes}
 
-pub returns-then-class_of-clause-token : goal.returns-then-class_of-clause-token
-returns-then-class_of-clause-token c =
+pub returns-then-begins_white-clause-token : goal.returns-then-begins_white-clause-token
+returns-then-begins_white-clause-token c =
     let bytes = c.as_bytes-bytes.result.now in
     let n = c.white_run-n.result in
-    let past : nat_lt 127 (get_or bytes n 0) ≡ true = sym c.class_of.ensures.past ∙ eq-eqb _ _ (sym c.if-class_of.true) in
-    let next : next_fits (nat_lt 127) (drop n bytes) ≡ true = next_at (nat_lt 127) bytes n c.if-n-bytes.true ∙ past in
+    let past : begins_white (get_or bytes n 0) ≡ true = sym c.begins_white.ensures ∙ c.if-begins_white.true in
+    let next : next_fits begins_white (drop n bytes) ≡ true = next_at begins_white bytes n c.if-n-bytes.true ∙ past in
     white_uncommon c.args.text.now n c.requires (rw c.as_bytes-bytes.ensures.value at c.white_run-n.ensures) (rw c.as_bytes-bytes.ensures.value at next)
 
 pub returns-else-n-bytes-clause-token : goal.returns-else-n-bytes-clause-token
 returns-else-n-bytes-clause-token c =
     let bytes = c.as_bytes-bytes.result.now in
     let n = c.white_run-n.result in
-    let next : next_fits (nat_lt 127) (drop n bytes) ≡ false = elim c.else-n-bytes.branch [
-      | else-n-bytes-via-then-n-bytes+else-class_of w ↦
-          let low : nat_lt 127 (get_or bytes n 0) ≡ false = sym w.class_of.ensures.past ∙ ne_eqb _ _ (λ e. w.if-class_of.false (sym e)) in
-          next_at (nat_lt 127) bytes n w.if-n-bytes.true ∙ low
-      | else-n-bytes-via-else-n-bytes w ↦ next_end (nat_lt 127) bytes n (omega (arith, w.if-n-bytes.false))
+    let next : next_fits begins_white (drop n bytes) ≡ false = elim c.else-n-bytes.branch [
+      | else-n-bytes-via-then-n-bytes+else-begins_white w ↦
+          let other : begins_white (get_or bytes n 0) ≡ false = sym w.begins_white.ensures ∙ w.if-begins_white.false in
+          next_at begins_white bytes n w.if-n-bytes.true ∙ other
+      | else-n-bytes-via-else-n-bytes w ↦ next_end begins_white bytes n (omega (arith, w.if-n-bytes.false))
     ] in
     λ edition. white_common edition c.args.text.now n c.utf8.text c.requires (rw c.as_bytes-bytes.ensures.value at c.white_run-n.ensures) (rw c.as_bytes-bytes.ensures.value at next)

@@ -1,7 +1,6 @@
-use Rattle.std.proofs.Common.{w8}
-use Rattle.std.proofs.lemmas.Simd.{below_from_Fits}
-use Rattle.rap_lexer.proofs.Lanes.{white_lanes}
+use Rattle.std.proofs.Common.{sym, ◌∙◌}
+use Rattle.rap_lexer.proofs.Lanes.{spaces_white}
 use Rattle.rap_lexer.proofs.lexer.lanes.not_white.Goals as goal
 
-pub returns : goal.returns
-returns c = white_lanes c.args.bytes c.fits-bytes.0 (below_from_Fits w8 c.args.bytes c.fits-bytes.1)
+pub returns-then-not_space-eq0 : goal.returns-then-not_space-eq0
+returns-then-not_space-eq0 c = sym (spaces_white c.args.bytes (sym c.not_space.ensures ∙ c.if-not_space-eq0.true))

@@ -1,7 +1,7 @@
 use Rattle.std.proofs.Common.{◌≡◌, false, sym, ◌∙◌}
 use Rattle.rap_lexer.specs.Class.{is_in}
 use Rattle.rap_lexer.proofs.Runs.{stops, ends}
-use Rattle.rap_lexer.proofs.lexer.run.eat_any.Goals as goal
+use Rattle.rap_lexer.proofs.lexer.run.eat_each.Goals as goal
 
 pub returns-then-not-is_in : goal.returns-then-not-is_in
 returns-then-not-is_in c =
