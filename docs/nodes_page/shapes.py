@@ -1,8 +1,8 @@
 """The shapes of nodes as crates/rap_grammar_shapes/specs/Shapes.antt gives them, and what may follow in one.
 
-A shape is a constructor with its arguments (`Made`), as values.py of core_page makes them. What stands first in a list
-of children is a letter: a leaf or a node of one of some kinds, any leaf, or a float that is taken apart. These are apart
-from one another, as they are in the scripts: a script that takes any token takes no token of a kind that it names."""
+A shape is a constructor with its arguments (`Made`), as values.py of core_page makes them. A child is a letter: a leaf
+or a node of one of some kinds, any leaf, or a float that is taken apart. These are apart from one another, as they are
+in the scripts, where what takes any token names no kind."""
 from typing import NamedTuple, Optional
 
 from core_page.values import Evaluator, Made, Modules
@@ -46,6 +46,10 @@ class Shapes:
         if len(self.by_kind) < len(rows):
             kinds = [kind for kind, _ in rows]
             raise ValueError(f'more than one shape of the kinds {sorted({it for it in kinds if kinds.count(it) > 1})}')
+
+    def group(self, name: str) -> tuple[tuple[int, Made], ...]:
+        """The rows of a part of the table."""
+        return self.terms.of(MODULE, name)
 
     def kind_sets(self) -> dict[tuple[int, ...], str]:
         """The lists of kinds that have names, each with its name."""
