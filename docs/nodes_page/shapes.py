@@ -159,3 +159,32 @@ def is_of_shape(states: list[State], shape: Made) -> bool:
             if left[target] != rest:
                 return False
     return len(left) == len(states)
+
+
+class Child(NamedTuple):
+    """A child of a node as it is printed: a leaf or a node, and its kind."""
+    is_node: bool
+    kind: int
+
+    def fits(self, letter: Letter) -> bool:
+        """Whether a letter may be this child. A float that is taken apart is printed as what is made of it."""
+        if letter.form == 'any_leaf':
+            return not self.is_node
+        return letter.form == ('node_of' if self.is_node else 'leaf_of') and self.kind in letter.kinds
+
+
+def takes(states: list[State], children: list[Child]) -> bool:
+    """Whether an automaton takes children."""
+    at = {0}
+    for child in children:
+        at = {target for it in at for letter, target in states[it].steps if child.fits(letter)}
+    return any(states[it].ends for it in at)
+
+
+def takes_printed(states: list[State], children: list[Child], field: int, dot: int) -> bool:
+    """The same where a dot may stand behind a field: the last part of a float, as in `x.1. ..2`."""
+    if takes(states, children):
+        return True
+    behind = [at for at, (it, following) in enumerate(zip(children, children[1:]))
+              if it == Child(True, field) and following == Child(False, dot)]
+    return any(takes_printed(states, children[:at + 1] + children[at + 2:], field, dot) for at in behind)

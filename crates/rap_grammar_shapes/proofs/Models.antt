@@ -619,8 +619,7 @@ assoc_type_arg_states =
     state false (by_one NAME_REF 1 ∷ []) ∷ state false (by_node (GENERIC_ARG_LIST ∷ RETURN_TYPE_SYNTAX ∷ []) 2 ∷
     by_one PARENTHESIZED_ARG_LIST 3 ∷ by_token COLON 4 ∷ by_any 5 ∷ []) ∷ state false (by_token COLON 4 ∷ by_any 5 ∷ [])
     ∷ state false (by_one RET_TYPE 2 ∷ by_token COLON 4 ∷ by_any 5 ∷ []) ∷ state false (by_one TYPE_BOUND_LIST 6 ∷ []) ∷
-    state false (by_node (CONST_ARG ∷ ARRAY_TYPE ∷ DYN_TRAIT_TYPE ∷ FN_PTR_TYPE ∷ FOR_TYPE ∷ IMPL_TRAIT_TYPE ∷ INFER_TYPE ∷ MACRO_TYPE ∷ NEVER_TYPE ∷ PAREN_TYPE ∷ PATH_TYPE ∷ PATTERN_TYPE ∷ PTR_TYPE ∷ REF_TYPE ∷ SLICE_TYPE ∷ TUPLE_TYPE ∷ []) 6
-    ∷ []) ∷ state true [] ∷ []
+    state false (by_node types 6 ∷ by_one CONST_ARG 6 ∷ []) ∷ state true [] ∷ []
 
 abbrev pub use_bound_generic_args_states : List State
 use_bound_generic_args_states =

@@ -109,6 +109,15 @@ generic_arguments = ASSOC_TYPE_ARG ∷ CONST_ARG ∷ LIFETIME_ARG ∷ TYPE_ARG �
 abbrev pub expression : Shape
 expression = node_of expressions
 
+abbrev pub operand : Shape
+operand = node_of operands
+
+abbrev pub other_operand : Shape
+other_operand = node_of other_operands
+
+abbrev pub operator : Shape
+operator = leaf_of operators
+
 abbrev pub type : Shape
 type = node_of types
 
@@ -117,6 +126,9 @@ pattern = node_of patterns
 
 abbrev pub single_pattern : Shape
 single_pattern = node_of single_patterns
+
+abbrev pub range_end : Shape
+range_end = node_of range_ends
 
 abbrev pub item : Shape
 item = node_of items
@@ -129,6 +141,12 @@ meta = node_of metas
 
 abbrev pub predicate : Shape
 predicate = node_of predicates
+
+abbrev pub generic_parameter : Shape
+generic_parameter = node_of generic_parameters
+
+abbrev pub generic_argument : Shape
+generic_argument = node_of generic_arguments
 
 -- attributes and comments of documentation before something
 abbrev pub attributes : Shape
@@ -187,7 +205,7 @@ bound =
 
 -- An operand and the dot behind it, of which a float that is taken apart may be a part; and what is taken out of it.
 abbrev pub of_operand : Shape
-of_operand = node_of other_operands ⋅ token DOT or one FIELD_EXPR ⋅ opt (token DOT)
+of_operand = other_operand ⋅ token DOT or one FIELD_EXPR ⋅ opt (token DOT)
 
 abbrev pub member : Shape
 member = one NAME_REF or a_float
@@ -208,7 +226,7 @@ text_shapes =
     ∷ (MACRO_ITEMS has attributes ⋅ any_of item)
     -- the statements that a macro gives
     ∷ (MACRO_STMTS has any_of statement)
-    -- what has no place where it stands; without a message in it, a path that is no item
+    -- what stands where it must not; one without a message in it is a path in place of an item
     ∷ (ERROR has attributes ⋅ one PATH)
     ∷ []
 
@@ -221,7 +239,7 @@ name_shapes =
     ∷ (NAME_REF has any_leaf)
     -- a lifetime
     ∷ (LIFETIME has token LIFETIME_IDENT)
-    -- another name, as of what is imported
+    -- another name for what is imported
     ∷ (RENAME has token AS_KW ⋅ (one NAME or token UNDERSCORE))
     -- a path: its last segment behind the path before it
     ∷ (PATH has opt (one PATH ⋅ token COLON2) ⋅ one PATH_SEGMENT)
@@ -229,7 +247,7 @@ name_shapes =
     ∷ (PATH_SEGMENT has one TYPE_ANCHOR or opt (token COLON2) ⋅ one NAME_REF ⋅ arguments)
     -- a type in angle brackets that a path begins with, perhaps as a trait
     ∷ (TYPE_ANCHOR has in_angles (type ⋅ opt (token AS_KW ⋅ node_of (DYN_TRAIT_TYPE ∷ PATH_TYPE ∷ []))))
-    -- `(..)` behind a method whose result is bounded
+    -- `(..)` behind a method, for the type that it returns
     ∷ (RETURN_TYPE_SYNTAX has opt (token COLON2) ⋅ in_parens (token DOT2))
     ∷ []
 
@@ -237,36 +255,36 @@ name_shapes =
 abbrev pub generic_shapes : List (ℕ × Shape)
 generic_shapes =
     -- the generic arguments in angle brackets
-    (GENERIC_ARG_LIST has opt (token COLON2) ⋅ in_angles (listed (node_of generic_arguments)))
+    (GENERIC_ARG_LIST has opt (token COLON2) ⋅ in_angles (listed generic_argument))
     -- arguments in brackets, as `Fn(A, B)` has them
     ∷ (PARENTHESIZED_ARG_LIST has opt (token COLON2) ⋅ in_parens (listed (one TYPE_ARG)))
     -- a type as an argument
     ∷ (TYPE_ARG has type)
     -- a lifetime as an argument
     ∷ (LIFETIME_ARG has one LIFETIME)
-    -- a constant, as an argument or where only a constant may stand
+    -- a constant as an argument, a length, a default or the value of a variant
     ∷ (CONST_ARG has opt expression)
-    -- an associated type or constant that is given a value or bounds
+    -- an associated type or constant, with its value or its bounds
     ∷ (ASSOC_TYPE_ARG has
     one NAME_REF ⋅ arguments ⋅
-    (token COLON ⋅ one TYPE_BOUND_LIST or any_leaf ⋅ node_of (CONST_ARG ∷ types)))
+    (token COLON ⋅ one TYPE_BOUND_LIST or any_leaf ⋅ (type or one CONST_ARG)))
     -- the generic parameters of a declaration
-    ∷ (GENERIC_PARAM_LIST has in_angles (listed (node_of generic_parameters)))
+    ∷ (GENERIC_PARAM_LIST has in_angles (listed generic_parameter))
     -- a lifetime as a parameter
     ∷ (LIFETIME_PARAM has attributes ⋅ one LIFETIME ⋅ bounded)
     -- a type as a parameter
     ∷ (TYPE_PARAM has attributes ⋅ one NAME ⋅ bounded ⋅ default_type)
     -- a constant as a parameter
     ∷ (CONST_PARAM has attributes ⋅ token CONST_KW ⋅ one NAME ⋅ typed ⋅ default_value)
-    -- lifetimes that a bound or a type is for
+    -- `for` with lifetimes
     ∷ (FOR_BINDER has token FOR_KW ⋅ one GENERIC_PARAM_LIST)
-    -- bounds with `+` between, of which one may stand last; or what stands before the trait of a bound, without it
+    -- bounds with `+` between
     ∷ (TYPE_BOUND_LIST has
     any_of (one TYPE_BOUND ⋅ token PLUS) ⋅
     (one TYPE_BOUND or opt (token L_PAREN) ⋅ bound_modifiers))
     -- a bound, perhaps in brackets
     ∷ (TYPE_BOUND has bound or node_of (FOR_TYPE ∷ MACRO_TYPE ∷ []) or in_parens bound)
-    -- what an opaque type may capture
+    -- the parameters that an opaque type captures
     ∷ (USE_BOUND_GENERIC_ARGS has in_angles (listed (node_of (LIFETIME ∷ NAME_REF ∷ []))))
     -- the conditions of a declaration
     ∷ (WHERE_CLAUSE has token WHERE_KW ⋅ listed (one WHERE_PRED))
@@ -301,7 +319,7 @@ item_shapes =
     ∷ (PARAM_LIST has
     in_parens (attributes or opt (one SELF_PARAM ⋅ opt (token COMMA)) ⋅ listed (one PARAM))
     or token PIPE ⋅ listed (one PARAM) ⋅ token PIPE)
-    -- a parameter: a pattern with its type, either of them alone, or `..`
+    -- a parameter: a pattern with its type, one of them alone, or `...`
     ∷ (PARAM has
     attributes ⋅
     ((type or token DOT3)
@@ -314,9 +332,9 @@ item_shapes =
     or token AMP ⋅ opt (one LIFETIME) ⋅ opt (token MUT_KW) ⋅ one NAME))
     -- the type of what a function returns
     ∷ (RET_TYPE has token THIN_ARROW ⋅ type)
-    -- which functions are called how
+    -- `extern`, perhaps with the name of an ABI
     ∷ (ABI has token EXTERN_KW ⋅ opt (token STRING))
-    -- a type that is given a name, or an associated type
+    -- a name for a type, or an associated type
     ∷ (TYPE_ALIAS has
     modified ⋅ token TYPE_KW ⋅ one NAME ⋅ generic ⋅ bounded ⋅ where_clause ⋅ default_type ⋅ where_clause ⋅
     token SEMICOLON)
@@ -354,33 +372,33 @@ item_shapes =
     ∷ (STATIC has
     modified ⋅ token STATIC_KW ⋅ opt (token MUT_KW) ⋅ one NAME ⋅ generic ⋅ typed ⋅ opt (token EQ ⋅ expression) ⋅
     token SEMICOLON)
-    -- a trait, or a trait that stands for others
+    -- a trait, or a name for bounds
     ∷ (TRAIT has
     modified ⋅ token TRAIT_KW ⋅ one NAME ⋅ generic ⋅
     (bounded ⋅ where_clause ⋅ one ASSOC_ITEM_LIST
     or token EQ ⋅ one TYPE_BOUND_LIST ⋅ where_clause ⋅ token SEMICOLON))
-    -- an implementation, of a trait or of a type's own
+    -- the implementation of a trait or of a type
     ∷ (IMPL has
     modified ⋅ token IMPL_KW ⋅ generic ⋅ opt (token CONST_KW) ⋅ opt (token BANG) ⋅ type ⋅
     opt (token FOR_KW ⋅ type) ⋅ where_clause ⋅ one ASSOC_ITEM_LIST)
     -- the items of a trait or of an implementation
     ∷ (ASSOC_ITEM_LIST has in_braces (attributes ⋅ any_of item))
-    -- items that stand elsewhere
+    -- a block of items that are defined elsewhere
     ∷ (EXTERN_BLOCK has before_abi ⋅ one ABI ⋅ behind_abi ⋅ one EXTERN_ITEM_LIST)
     -- the items of such a block
     ∷ (EXTERN_ITEM_LIST has in_braces (attributes ⋅ any_of item))
-    -- who may see an item or a field
+    -- who may see what follows
     ∷ (VISIBILITY has token PUB_KW ⋅ opt (one VISIBILITY_INNER))
-    -- where it is seen, in brackets
+    -- where it is seen or may be used, in brackets
     ∷ (VISIBILITY_INNER has in_parens (opt (token IN_KW) ⋅ one PATH))
     -- where a trait may be implemented
     ∷ (IMPL_RESTRICTION has token IMPL_KW ⋅ one VISIBILITY_INNER)
     -- where a field may be changed
     ∷ (MUT_RESTRICTION has token MUT_KW ⋅ one VISIBILITY_INNER)
-    -- the rules of a macro
+    -- a macro by its rules
     ∷ (MACRO_RULES has
     visible ⋅ token MACRO_RULES_KW ⋅ token BANG ⋅ one NAME ⋅ one TOKEN_TREE ⋅ opt (token SEMICOLON))
-    -- a macro that `macro` declares
+    -- a macro with one rule or with several
     ∷ (MACRO_DEF has visible ⋅ token MACRO_KW ⋅ one NAME ⋅ one TOKEN_TREE ⋅ opt (one TOKEN_TREE))
     -- a call of a macro
     ∷ (MACRO_CALL has attributes ⋅ one PATH ⋅ token BANG ⋅ one TOKEN_TREE ⋅ opt (token SEMICOLON))
@@ -396,13 +414,13 @@ attribute_shapes =
     (DOC_COMMENT has any_leaf)
     -- an attribute
     ∷ (ATTR has token POUND ⋅ opt (token BANG) ⋅ in_brackets meta)
-    -- a path alone
+    -- an attribute that is a path alone
     ∷ (PATH_META has one PATH)
-    -- a path with a value
+    -- an attribute with a value
     ∷ (KEY_VALUE_META has one PATH ⋅ token EQ ⋅ expression)
-    -- a path with tokens in brackets
+    -- an attribute with tokens in brackets
     ∷ (TOKEN_TREE_META has one PATH ⋅ one TOKEN_TREE)
-    -- an attribute that is marked as unsafe
+    -- an attribute in `unsafe(..)`
     ∷ (UNSAFE_META has token UNSAFE_KW ⋅ in_parens meta)
     -- a condition
     ∷ (CFG_META has token CFG_KW ⋅ in_parens (predicate ⋅ opt (token COMMA)))
@@ -431,14 +449,14 @@ type_shapes =
     ∷ (TUPLE_TYPE has in_parens (listed type))
     -- a type in brackets
     ∷ (PAREN_TYPE has in_parens (type ⋅ any_of (token COMMA ⋅ type)))
-    -- the type of what never returns
+    -- the type without values
     ∷ (NEVER_TYPE has token BANG)
-    -- a type that is to be found
+    -- a type that is left to be inferred
     ∷ (INFER_TYPE has token UNDERSCORE)
     -- a pointer to a function
     ∷ (FN_PTR_TYPE has
     opt (token UNSAFE_KW) ⋅ opt (one ABI) ⋅ token FN_KW ⋅ one PARAM_LIST ⋅ opt (one RET_TYPE))
-    -- a type for all lifetimes of some names
+    -- a type with `for` before it
     ∷ (FOR_TYPE has one FOR_BINDER ⋅ type)
     -- some type with these bounds
     ∷ (IMPL_TRAIT_TYPE has token IMPL_KW ⋅ one TYPE_BOUND_LIST)
@@ -455,9 +473,9 @@ abbrev pub pattern_shapes : List (ℕ × Shape)
 pattern_shapes =
     -- a name that is bound
     (IDENT_PAT has opt (token REF_KW) ⋅ opt (token MUT_KW) ⋅ one NAME ⋅ opt (token AT ⋅ single_pattern))
-    -- `_`
+    -- what matches anything
     ∷ (WILDCARD_PAT has token UNDERSCORE)
-    -- `..`
+    -- the other elements or fields
     ∷ (REST_PAT has attributes ⋅ token DOT2)
     -- a path as a pattern
     ∷ (PATH_PAT has one PATH)
@@ -465,8 +483,8 @@ pattern_shapes =
     ∷ (LITERAL_PAT has opt (token MINUS) ⋅ opt (one LITERAL))
     -- a range, of which one end may be missing
     ∷ (RANGE_PAT has
-    leaf_of (DOT2 ∷ DOT2EQ ∷ []) ⋅ node_of range_ends
-    or node_of range_ends ⋅ leaf_of (DOT2 ∷ DOT2EQ ∷ DOT3 ∷ []) ⋅ opt (node_of range_ends))
+    leaf_of (DOT2 ∷ DOT2EQ ∷ []) ⋅ range_end
+    or range_end ⋅ leaf_of (DOT2 ∷ DOT2EQ ∷ DOT3 ∷ []) ⋅ opt range_end)
     -- a reference
     ∷ (REF_PAT has token AMP ⋅ opt (token MUT_KW) ⋅ single_pattern)
     -- a pattern in brackets
@@ -522,7 +540,7 @@ expression_shapes =
     (LITERAL has attributes ⋅ any_leaf)
     -- a path as an expression
     ∷ (PATH_EXPR has attributes ⋅ one PATH)
-    -- `_` at the left of an assignment
+    -- `_` as an expression
     ∷ (UNDERSCORE_EXPR has attributes ⋅ token UNDERSCORE)
     -- an expression in brackets
     ∷ (PAREN_EXPR has attributes ⋅ in_parens (loosely_listed expression))
@@ -546,27 +564,27 @@ expression_shapes =
     attributes ⋅ token AMP ⋅
     opt (token MUT_KW or token RAW_KW ⋅ opt (leaf_of (CONST_KW ∷ MUT_KW ∷ []))) ⋅ expression)
     -- an operator between two expressions
-    ∷ (BIN_EXPR has expression ⋅ leaf_of operators ⋅ expression)
+    ∷ (BIN_EXPR has expression ⋅ operator ⋅ expression)
     -- a range, of which either end may be missing
     ∷ (RANGE_EXPR has attributes ⋅ opt expression ⋅ leaf_of (DOT2 ∷ DOT2EQ ∷ []) ⋅ opt expression)
     -- a value as another type
     ∷ (CAST_EXPR has expression ⋅ token AS_KW ⋅ type)
     -- a call
-    ∷ (CALL_EXPR has attributes ⋅ node_of operands ⋅ one ARG_LIST)
+    ∷ (CALL_EXPR has attributes ⋅ operand ⋅ one ARG_LIST)
     -- the arguments of a call
     ∷ (ARG_LIST has in_parens (listed expression))
     -- a call of a method
     ∷ (METHOD_CALL_EXPR has
     attributes ⋅ of_operand ⋅ one NAME_REF ⋅ opt (one GENERIC_ARG_LIST) ⋅ one ARG_LIST)
-    -- A field, by its name or its number. Of `x.1.2` the float is taken apart, and there are two.
+    -- a field by its name or its number; `x.1.2`, where a float is taken apart, is two
     ∷ (FIELD_EXPR has
-    attributes ⋅ (node_of other_operands ⋅ token DOT ⋅ member or one FIELD_EXPR ⋅ opt (opt (token DOT) ⋅ member)))
+    attributes ⋅ (other_operand ⋅ token DOT ⋅ member or one FIELD_EXPR ⋅ opt (opt (token DOT) ⋅ member)))
     -- an element by its index
-    ∷ (INDEX_EXPR has attributes ⋅ node_of operands ⋅ in_brackets expression)
-    -- what a future gives
+    ∷ (INDEX_EXPR has attributes ⋅ operand ⋅ in_brackets expression)
+    -- a future that is awaited
     ∷ (AWAIT_EXPR has attributes ⋅ of_operand ⋅ token AWAIT_KW)
     -- `?` behind an expression
-    ∷ (TRY_EXPR has attributes ⋅ node_of operands ⋅ token QUESTION)
+    ∷ (TRY_EXPR has attributes ⋅ operand ⋅ token QUESTION)
     -- a block, perhaps with a label, or with words as `unsafe` or `async`
     ∷ (BLOCK_EXPR has
     attributes ⋅
@@ -604,11 +622,11 @@ expression_shapes =
     ∷ (MATCH_GUARD has token IF_KW ⋅ expression)
     -- the return from a function
     ∷ (RETURN_EXPR has attributes ⋅ token RETURN_KW ⋅ opt expression)
-    -- a call that the function becomes
+    -- a call that takes the place of the function's own
     ∷ (BECOME_EXPR has attributes ⋅ token BECOME_KW ⋅ expression)
-    -- what a generator gives next
+    -- a value that a generator yields
     ∷ (YIELD_EXPR has attributes ⋅ token YIELD_KW ⋅ opt expression)
-    -- an error that is thrown
+    -- an error that is returned
     ∷ (YEET_EXPR has attributes ⋅ token DO_KW ⋅ opt (token YEET_KW) ⋅ opt expression)
     -- the next turn of a loop
     ∷ (CONTINUE_EXPR has attributes ⋅ token CONTINUE_KW ⋅ opt (one LIFETIME))
@@ -623,13 +641,13 @@ built_in_shapes =
     (OFFSET_OF_EXPR has
     attributes ⋅ built_in OFFSET_OF_KW ⋅
     in_parens (type ⋅ token COMMA ⋅ (in_parens dotted_names or dotted_names)))
-    -- a text with values put in
+    -- a text with arguments to format
     ∷ (FORMAT_ARGS_EXPR has
     attributes ⋅ built_in FORMAT_ARGS_KW ⋅
     in_parens (expression ⋅ opt (token COMMA ⋅ loosely_listed (one FORMAT_ARGS_ARG))))
-    -- a value, perhaps with a name
+    -- such an argument, perhaps with a name
     ∷ (FORMAT_ARGS_ARG has opt (one NAME ⋅ token EQ) ⋅ expression)
-    -- the bytes of a file
+    -- `include_bytes`, of which these words alone are taken
     ∷ (INCLUDE_BYTES_EXPR has attributes ⋅ built_in INCLUDE_BYTES_KW)
     -- whether a condition holds
     ∷ (CFG_PRED_EXPR has attributes ⋅ built_in CFG_KW ⋅ in_parens (predicate ⋅ opt (token COMMA)))
@@ -642,11 +660,11 @@ built_in_shapes =
     any_of (token COMMA ⋅
     (node_of (ASM_CLOBBER_ABI ∷ ASM_OPERAND_NAMED ∷ ASM_OPTIONS ∷ []) or attributes ⋅ expression)) ⋅
     opt (token COMMA)))
-    -- what calls of some kind change
+    -- the ABIs whose registers are overwritten
     ∷ (ASM_CLOBBER_ABI has
     attributes ⋅ token CLOBBER_ABI_KW ⋅ token L_PAREN ⋅ any_of (token STRING ⋅ token COMMA) ⋅
     opt (opt (token STRING) ⋅ token R_PAREN))
-    -- options, in brackets
+    -- the options of assembly
     ∷ (ASM_OPTIONS has
     attributes ⋅ token OPTIONS_KW ⋅ token L_PAREN ⋅ any_of (one ASM_OPTION ⋅ token COMMA) ⋅
     opt (opt (one ASM_OPTION) ⋅ token R_PAREN))
@@ -660,7 +678,7 @@ built_in_shapes =
     node_of (ASM_CONST ∷ ASM_LABEL ∷ ASM_REG_OPERAND ∷ ASM_SYM ∷ []))
     -- an operand in a register
     ∷ (ASM_REG_OPERAND has one ASM_DIR_SPEC ⋅ in_parens (one ASM_REG_SPEC) ⋅ one ASM_OPERAND_EXPR)
-    -- whether it goes in or out
+    -- whether an operand goes in or out
     ∷ (ASM_DIR_SPEC has leaf_of (IN_KW ∷ INLATEOUT_KW ∷ INOUT_KW ∷ LATEOUT_KW ∷ OUT_KW ∷ []))
     -- a register, or which ones may be taken
     ∷ (ASM_REG_SPEC has token STRING or one NAME_REF)
