@@ -145,8 +145,8 @@ fn_states =
 
 abbrev pub token_tree_states : List State
 token_tree_states =
-    state false (by_any 1 ∷ []) ∷ state false (by_any 1 ∷ by_one TOKEN_TREE 1 ∷
-    by_leaf (R_BRACK ∷ R_CURLY ∷ R_PAREN ∷ []) 2 ∷ []) ∷ state true [] ∷ []
+    state false (by_any 1 ∷ []) ∷ state false (by_any 1 ∷ by_one TOKEN_TREE 1 ∷ by_leaf (R_BRACK ∷ R_CURLY ∷ R_PAREN ∷
+    []) 2 ∷ []) ∷ state true [] ∷ []
 
 abbrev pub struct_states : List State
 struct_states =

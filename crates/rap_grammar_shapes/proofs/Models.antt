@@ -114,8 +114,8 @@ bin_expr_states =
 abbrev pub ref_expr_states : List State
 ref_expr_states =
     state false (by_node attribute_kinds 0 ∷ by_token AMP 1 ∷ []) ∷ state false (by_token MUT_KW 2 ∷ by_token RAW_KW 3 ∷
-    by_node expressions 4 ∷ []) ∷ state false (by_node expressions 4 ∷ []) ∷
-    state false (by_leaf (CONST_KW ∷ MUT_KW ∷ []) 2 ∷ by_node expressions 4 ∷ []) ∷ state true [] ∷ []
+    by_node expressions 4 ∷ []) ∷ state false (by_node expressions 4 ∷ []) ∷ state false (by_leaf (CONST_KW ∷ MUT_KW ∷
+    []) 2 ∷ by_node expressions 4 ∷ []) ∷ state true [] ∷ []
 
 abbrev pub prefix_expr_states : List State
 prefix_expr_states =
@@ -229,8 +229,8 @@ closure_expr_states =
 abbrev pub if_expr_states : List State
 if_expr_states =
     state false (by_node attribute_kinds 0 ∷ by_token IF_KW 1 ∷ []) ∷ state false (by_node expressions 2 ∷ []) ∷
-    state false (by_one BLOCK_EXPR 3 ∷ []) ∷ state true (by_token ELSE_KW 4 ∷ []) ∷
-    state false (by_node (BLOCK_EXPR ∷ IF_EXPR ∷ []) 5 ∷ []) ∷ state true [] ∷ []
+    state false (by_one BLOCK_EXPR 3 ∷ []) ∷ state true (by_token ELSE_KW 4 ∷ []) ∷ state false (by_node (BLOCK_EXPR ∷
+    IF_EXPR ∷ []) 5 ∷ []) ∷ state true [] ∷ []
 
 abbrev pub loop_expr_states : List State
 loop_expr_states =
@@ -341,13 +341,12 @@ cfg_pred_expr_states =
 abbrev pub asm_expr_states : List State
 asm_expr_states =
     state false (by_node attribute_kinds 0 ∷ by_token BUILTIN_KW 1 ∷ by_one VISIBILITY 2 ∷ []) ∷
-    state false (by_token POUND 3 ∷ []) ∷ state false (by_token BUILTIN_KW 4 ∷ []) ∷
-    state false (by_leaf (ASM_KW ∷ GLOBAL_ASM_KW ∷ NAKED_ASM_KW ∷ []) 5 ∷ []) ∷ state false (by_token POUND 6 ∷ []) ∷
-    state false (by_token L_PAREN 7 ∷ []) ∷ state false (by_token GLOBAL_ASM_KW 5 ∷ []) ∷
-    state false (by_node expressions 8 ∷ []) ∷ state false (by_token COMMA 9 ∷ by_token R_PAREN 10 ∷ []) ∷
-    state false (by_node (ASM_CLOBBER_ABI ∷ ASM_OPERAND_NAMED ∷ ASM_OPTIONS ∷ []) 8 ∷ by_node attribute_kinds 11 ∷
-    by_node expressions 8 ∷ by_token R_PAREN 10 ∷ []) ∷ state true [] ∷ state false (by_node attribute_kinds 11 ∷
-    by_node expressions 8 ∷ []) ∷ []
+    state false (by_token POUND 3 ∷ []) ∷ state false (by_token BUILTIN_KW 4 ∷ []) ∷ state false (by_leaf (ASM_KW ∷
+    GLOBAL_ASM_KW ∷ NAKED_ASM_KW ∷ []) 5 ∷ []) ∷ state false (by_token POUND 6 ∷ []) ∷ state false (by_token L_PAREN 7 ∷
+    []) ∷ state false (by_token GLOBAL_ASM_KW 5 ∷ []) ∷ state false (by_node expressions 8 ∷ []) ∷
+    state false (by_token COMMA 9 ∷ by_token R_PAREN 10 ∷ []) ∷ state false (by_node (ASM_CLOBBER_ABI ∷
+    ASM_OPERAND_NAMED ∷ ASM_OPTIONS ∷ []) 8 ∷ by_node attribute_kinds 11 ∷ by_node expressions 8 ∷ by_token R_PAREN 10 ∷
+    []) ∷ state true [] ∷ state false (by_node attribute_kinds 11 ∷ by_node expressions 8 ∷ []) ∷ []
 
 abbrev pub asm_clobber_abi_states : List State
 asm_clobber_abi_states =
@@ -363,8 +362,8 @@ asm_options_states =
 
 abbrev pub asm_option_states : List State
 asm_option_states =
-    state false (by_leaf (ATT_SYNTAX_KW ∷ MAY_UNWIND_KW ∷ NOMEM_KW ∷ NORETURN_KW ∷ NOSTACK_KW ∷ PRESERVES_FLAGS_KW ∷ PURE_KW ∷ RAW_KW ∷ READONLY_KW ∷ []) 1
-    ∷ []) ∷ state true [] ∷ []
+    state false (by_leaf (ATT_SYNTAX_KW ∷ MAY_UNWIND_KW ∷ NOMEM_KW ∷ NORETURN_KW ∷ NOSTACK_KW ∷ PRESERVES_FLAGS_KW ∷
+    PURE_KW ∷ RAW_KW ∷ READONLY_KW ∷ []) 1 ∷ []) ∷ state true [] ∷ []
 
 abbrev pub asm_dir_spec_states : List State
 asm_dir_spec_states =
@@ -383,9 +382,9 @@ asm_reg_operand_states =
 
 abbrev pub asm_operand_named_states : List State
 asm_operand_named_states =
-    state false (by_node attribute_kinds 0 ∷ by_one NAME 1 ∷
-    by_node (ASM_CONST ∷ ASM_LABEL ∷ ASM_REG_OPERAND ∷ ASM_SYM ∷ []) 2 ∷ []) ∷ state false (by_token EQ 3 ∷ []) ∷
-    state true [] ∷ state false (by_node (ASM_CONST ∷ ASM_LABEL ∷ ASM_REG_OPERAND ∷ ASM_SYM ∷ []) 2 ∷ []) ∷ []
+    state false (by_node attribute_kinds 0 ∷ by_one NAME 1 ∷ by_node (ASM_CONST ∷ ASM_LABEL ∷ ASM_REG_OPERAND ∷
+    ASM_SYM ∷ []) 2 ∷ []) ∷ state false (by_token EQ 3 ∷ []) ∷ state true [] ∷ state false (by_node (ASM_CONST ∷
+    ASM_LABEL ∷ ASM_REG_OPERAND ∷ ASM_SYM ∷ []) 2 ∷ []) ∷ []
 
 abbrev pub asm_label_states : List State
 asm_label_states = state false (by_token LABEL_KW 1 ∷ []) ∷ state false (by_one BLOCK_EXPR 2 ∷ []) ∷ state true [] ∷ []
@@ -573,11 +572,10 @@ pattern_type_states =
 abbrev pub type_bound_states : List State
 type_bound_states =
     state false (by_one LIFETIME 1 ∷ by_token USE_KW 2 ∷ by_one FOR_BINDER 3 ∷ by_token CONST_KW 4 ∷ by_token L_BRACK 5
-    ∷ by_token TILDE 6 ∷ by_token ASYNC_KW 7 ∷ by_token QUESTION 8 ∷ by_one PATH_TYPE 1 ∷
-    by_node (FOR_TYPE ∷ MACRO_TYPE ∷ []) 1 ∷ by_token L_PAREN 9 ∷ []) ∷ state true [] ∷
-    state false (by_one USE_BOUND_GENERIC_ARGS 1 ∷ []) ∷ state false (by_token CONST_KW 4 ∷ by_token L_BRACK 5 ∷
-    by_token TILDE 6 ∷ by_token ASYNC_KW 7 ∷ by_token QUESTION 8 ∷ by_one PATH_TYPE 1 ∷ []) ∷
-    state false (by_token ASYNC_KW 7 ∷ by_token QUESTION 8 ∷ by_one PATH_TYPE 1 ∷ []) ∷
+    ∷ by_token TILDE 6 ∷ by_token ASYNC_KW 7 ∷ by_token QUESTION 8 ∷ by_one PATH_TYPE 1 ∷ by_node (FOR_TYPE ∷
+    MACRO_TYPE ∷ []) 1 ∷ by_token L_PAREN 9 ∷ []) ∷ state true [] ∷ state false (by_one USE_BOUND_GENERIC_ARGS 1 ∷ []) ∷
+    state false (by_token CONST_KW 4 ∷ by_token L_BRACK 5 ∷ by_token TILDE 6 ∷ by_token ASYNC_KW 7 ∷ by_token QUESTION 8
+    ∷ by_one PATH_TYPE 1 ∷ []) ∷ state false (by_token ASYNC_KW 7 ∷ by_token QUESTION 8 ∷ by_one PATH_TYPE 1 ∷ []) ∷
     state false (by_token CONST_KW 10 ∷ []) ∷ state false (by_token CONST_KW 4 ∷ []) ∷ state false (by_token QUESTION 8
     ∷ by_one PATH_TYPE 1 ∷ []) ∷ state false (by_one PATH_TYPE 1 ∷ []) ∷ state false (by_one LIFETIME 11 ∷
     by_token USE_KW 12 ∷ by_one FOR_BINDER 13 ∷ by_token CONST_KW 14 ∷ by_token L_BRACK 15 ∷ by_token TILDE 16 ∷
