@@ -115,8 +115,10 @@ class Writer:
         for it in self.named('List (ℕ × Shape)'):
             if it.name != 'shapes':
                 words = {kind: said for lines in it.clauses for said, kind in ROW.findall('\n'.join(lines))}
-                yield Group(it.comment, [(kind, words[kind], self.text(shape, {}).words)
-                                         for kind, shape in rows_of(self.body(it.name)[1])])
+                rows = list(rows_of(self.body(it.name)[1]))
+                if [kind for kind, _ in rows] != list(words):
+                    raise ValueError(f'{it.name}: above each shape one line says what its kind is')
+                yield Group(it.comment, [(kind, words[kind], self.text(shape, {}).words) for kind, shape in rows])
 
     def parts(self):
         """The parts with names that were written, each with its text."""

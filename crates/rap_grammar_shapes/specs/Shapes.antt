@@ -40,7 +40,7 @@ listed a = any_of (a ⋅ token COMMA) ⋅ opt a
 abbrev pub loosely_listed : Shape → Shape
 loosely_listed a = any_of (a ⋅ opt (token COMMA))
 
--- Kinds of expressions: those that a call, a field or a `?` may stand behind, and all.
+-- Kinds of expressions: those that a call, a field or a `?` may stand behind, first without fields; and all.
 abbrev pub other_operands : List ℕ
 other_operands =
     ARRAY_EXPR ∷ ASM_EXPR ∷ AWAIT_EXPR ∷ BECOME_EXPR ∷ BLOCK_EXPR ∷ BREAK_EXPR ∷ CALL_EXPR ∷ CFG_PRED_EXPR ∷
@@ -166,7 +166,7 @@ default_type = opt (token EQ ⋅ type)
 abbrev pub default_value : Shape
 default_value = opt (token EQ ⋅ one CONST_ARG)
 
--- what stands before an item; of these that may have modifiers, before its ABI, behind it, and all
+-- What stands before an item; and where it may have modifiers, what stands before its ABI, behind it, and all.
 abbrev pub visible : Shape
 visible = attributes ⋅ opt (one VISIBILITY)
 
