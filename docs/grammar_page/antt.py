@@ -10,8 +10,9 @@ import re
 from dataclasses import dataclass, field
 
 TOKEN = re.compile(r'\s+|--[^\n]*|"(?:\\.|[^"\\])*"|[()\[\]{},;]|[^\s()\[\]{},;"λ]+|λ')
-# Each operator with how tightly it binds. All go to the right.
-POWERS = {'▸': 1, '||': 2, '&&': 3, '==': 4, '⊳': 4, '∷': 5, '++': 5, '+': 6, '-': 6, '*': 7}
+# Each operator with how tightly it binds. All go to the right but those of shapes.
+POWERS = {'▸': 1, '||': 2, '&&': 3, 'has': 3, '==': 4, '⊳': 4, 'or': 4, '⋅': 5, '∷': 5, '++': 5, '+': 6, '-': 6, '*': 7}
+LEFT = ('or', '⋅')
 DEFINITION = re.compile(r'^(?:(?:unfoldable|abbrev|pub) )+([^\s:(]+) : (.*)$')
 IMPORT = re.compile(r'^(?:(?:unfoldable|pub) )*use Rattle\.([\w.]+?)(?:\.\{([^}]*)\}| as (\w+))$')
 
@@ -75,7 +76,7 @@ class Reader:
         left = self.call()
         while POWERS.get(self.peek(), -1) >= least:
             operator = self.take()
-            left = ('op', operator, left, self.term(POWERS[operator]))
+            left = ('op', operator, left, self.term(POWERS[operator] + (operator in LEFT)))
         return left
 
     def function(self):
