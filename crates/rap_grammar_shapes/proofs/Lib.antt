@@ -1,2 +1,7 @@
+pub mod Claims
 pub mod Content
 pub mod ContentLaws
+pub mod Ends
+pub mod Models
+pub mod Runs
+pub mod Small
