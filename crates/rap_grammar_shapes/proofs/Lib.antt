@@ -2,6 +2,13 @@ pub mod Claims
 pub mod Content
 pub mod ContentLaws
 pub mod Ends
+pub mod ExprRules
+pub mod GenericRules
+pub mod ItemRules
 pub mod Models
+pub mod PatternRules
 pub mod Runs
 pub mod Small
+pub mod StmtRules
+pub mod Trees
+pub mod TypeRules
