@@ -5,6 +5,7 @@ pub mod Ends
 pub mod ExprRules
 pub mod GenericRules
 pub mod ItemRules
+pub mod Keeps
 pub mod Models
 pub mod PatternRules
 pub mod Runs
