@@ -6,7 +6,7 @@ use Rattle.rap_grammar_scripts.specs.Script.{Outcome, nothing as none_left, some
 use Rattle.rap_grammar_scripts.specs.declared.rule.Rule.{Rule}
 use Rattle.rap_grammar_scripts.specs.declared.rule.Rule.TheVariants as knot
 use Rattle.rap_grammar_shapes.proofs.Content.{Content, leaf_of, node_of, spoilt, ◌or◌}
-use Rattle.rap_grammar_shapes.proofs.Models.{kinds_0, kinds_1, kinds_11, kinds_15, kinds_2, kinds_3, kinds_4, kinds_6}
+use Rattle.rap_grammar_shapes.specs.Models.{kinds_0, kinds_1, kinds_11, kinds_15, kinds_2, kinds_3, kinds_4, kinds_6}
 
 -- What a rule appends to the node that is open, by its outcome: one leaf or one node of these kinds, or what is spoilt.
 abbrev pub brings : Rule → List (Outcome × Content)

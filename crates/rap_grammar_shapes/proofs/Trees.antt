@@ -22,7 +22,7 @@ use Rattle.rap_grammar_shapes.specs.Whole.{are_sound, IsWhole}
 use Rattle.rap_grammar_shapes.proofs.Content.{Content, nothing, leaf_of, any_leaf, node_of, a_float, spoilt, ◌⋅◌, ◌or◌, any_of, Holds, no_child, a_leaf, some_leaf, a_node, the_float, not_whole, in_order, by_first, by_second, no_more, one_more, choose, equal, equal_kinds, united, either_of, onto, both_kinds, last_nodes, before}
 use Rattle.rap_grammar_shapes.proofs.ContentLaws.{by_choice, by_chosen, equal_so, equal_kinds_so, united_left, united_right, holds_first, holds_second, holds_onto, whole_left, whole_right, right_spoils}
 use Rattle.rap_grammar_shapes.proofs.Ends.{Contents, astray, contents, equal_older, with_more, opened, node_content, closed_if, closed, preceded_if, with_last, extended_by, extended_if, drawn, float_runs, parted, given_up, joined_if, either}
-use Rattle.rap_grammar_shapes.proofs.Models.{model}
+use Rattle.rap_grammar_shapes.specs.Models.{model}
 use Rattle.rap_grammar_shapes.proofs.Runs.{runs, runs_so, comes_back, back_so}
 
 -- What is claimed of each node: its children are accepted, if no message and no ERROR is among them.
