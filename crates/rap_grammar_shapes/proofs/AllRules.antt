@@ -1,0 +1,241 @@
+-- Every rule brings what is claimed of it, and what a script appends has the children of its nodes' kinds.
+use Rattle.std.proofs.Common.{◌≡◌, ◌&&◌, ℕ, zero, suc, Bool, true, false, List, [], ◌∷◌, Some, if◌then◌else◌, refl, sym, subst, ap, ◌∙◌}
+use Rattle.rap_events.proofs.Truth.{and_left, and_right, or_left, or_right}
+use Rattle.rap_events.specs.Forest.{Forest, none, node, leaf, message, split, ◌⧺◌}
+use Rattle.rap_events.specs.Machine.{Stack}
+use Rattle.rap_grammar_core.specs.StandsIn.{NodeAt, last_node, in_last_node, before_node, before_leaf, before_message, before_split}
+use Rattle.rap_grammar_scripts.specs.Exec.{exec, run_of}
+use Rattle.rap_grammar_scripts.specs.Knot.{script_of}
+use Rattle.rap_grammar_scripts.specs.Script.{Script, Outcome}
+use Rattle.rap_grammar_scripts.specs.Stand.{Stand}
+use Rattle.rap_grammar_scripts.specs.Tally.{same_outcome}
+use Rattle.rap_grammar_scripts.specs.declared.arguments.Restrictions.{Restrictions}
+use Rattle.rap_grammar_scripts.specs.declared.arguments.Semicolon.{Semicolon}
+use Rattle.rap_grammar_scripts.specs.declared.arguments.Semicolon.TheVariants as semicolon
+use Rattle.rap_grammar_scripts.specs.declared.rule.Rule.{Rule}
+use Rattle.rap_grammar_scripts.specs.declared.rule.Rule.TheVariants as knot
+use Rattle.rap_grammar_scripts.proofs.Exec.{no_end}
+use Rattle.rap_grammar_scripts.proofs.Tally.{same_is}
+use Rattle.rap_grammar_table.specs.Known.{among, every_one}
+use Rattle.rap_grammar_table.specs.Shapes.{Child, children_of}
+use Rattle.rap_grammar_table.proofs.Known.{by_or, every_so}
+use Rattle.rap_grammar_table.proofs.Shaped.{AllSo, all_so-⧺, found}
+use Rattle.rap_grammar_shapes.specs.Automata.{Accepts}
+use Rattle.rap_grammar_shapes.specs.HaveShapes.{HaveShapes, RulesKeepShapes}
+use Rattle.rap_grammar_shapes.specs.Whole.{IsWhole}
+use Rattle.rap_grammar_shapes.proofs.Claims.{brings}
+use Rattle.rap_grammar_shapes.proofs.Content.{Content, nothing, leaf_of, any_leaf, node_of, a_float, spoilt, ◌⋅◌, ◌or◌, any_of, Holds, no_child, a_leaf, a_node, not_whole, by_first, by_second, choose}
+use Rattle.rap_grammar_shapes.proofs.Ends.{Contents, astray, contents, Ends, ends, has_leaves, has_nodes, has_spoilt, within, end_among, all_among, brings_all}
+use Rattle.rap_grammar_shapes.proofs.ExprRules.{expr_keeps_no_structs_first, expr_keeps_no_structs, expr_keeps_structs_first, expr_keeps_structs}
+use Rattle.rap_grammar_shapes.proofs.GenericRules.{generic_arg_keeps, generic_param_list_keeps, bounds_keep, where_clause_keeps}
+use Rattle.rap_grammar_shapes.proofs.ItemRules.{item_keeps}
+use Rattle.rap_grammar_shapes.proofs.Keeps.{Among, this_one, later_one, Brought, this_way, other_way, BringsSo, keeps}
+use Rattle.rap_grammar_shapes.proofs.Known.{is_known, all_known, knows, may_stand, all_stand, stands_under}
+use Rattle.rap_grammar_shapes.specs.Models.{model}
+use Rattle.rap_grammar_shapes.proofs.PatternRules.{pattern_keeps, pattern_single_keeps, arm_pattern_keeps}
+use Rattle.rap_grammar_shapes.proofs.Runs.{runs, runs_so}
+use Rattle.rap_grammar_shapes.proofs.Small.{Keeps, token_tree_keeps, cfg_predicate_keeps, meta_keeps, use_tree_keeps, if_expr_keeps}
+use Rattle.rap_grammar_shapes.proofs.StmtRules.{stmt_required_keeps, stmt_optional_keeps, stmt_forbidden_keeps}
+use Rattle.rap_grammar_shapes.proofs.Trees.{Claimed, Part, Is}
+use Rattle.rap_grammar_shapes.proofs.TypeRules.{type_with_bounds_keeps, type_without_bounds_keeps, path_type_bounds_keeps}
+
+-- what is one child of these kinds
+leaves_so : (ks : List ℕ) (c : Content) (cs : List Child) → has_leaves ks c ≡ true → Holds (leaf_of ks) cs → Holds c cs
+leaves_so ks (leaf_of js) cs h (a_leaf {kind = k} m) = a_leaf (every_so (among js) ks k h m)
+leaves_so ks (a or b) cs h s =
+    by_or (has_leaves ks a) (has_leaves ks b) h (λ i. by_first (leaves_so ks a cs i s))
+    (λ i. by_second (leaves_so ks b cs i s))
+leaves_so ks c cs h s = absurd cc
+
+nodes_so : (ks : List ℕ) (c : Content) (cs : List Child) → has_nodes ks c ≡ true → Holds (node_of ks) cs → Holds c cs
+nodes_so ks (node_of js) cs h (a_node {kind = k} m) = a_node (every_so (among js) ks k h m)
+nodes_so ks (a or b) cs h s =
+    by_or (has_nodes ks a) (has_nodes ks b) h (λ i. by_first (nodes_so ks a cs i s))
+    (λ i. by_second (nodes_so ks b cs i s))
+nodes_so ks c cs h s = absurd cc
+
+spoilt_so : (c : Content) (cs : List Child) → has_spoilt c ≡ true → Holds spoilt cs → Holds c cs
+spoilt_so spoilt cs h s = s
+spoilt_so (a or b) cs h s =
+    by_or (has_spoilt a) (has_spoilt b) h (λ i. by_first (spoilt_so a cs i s)) (λ i. by_second (spoilt_so b cs i s))
+spoilt_so c cs h s = absurd cc
+
+-- What is within another content is held by it.
+pub within_so : (a c : Content) (cs : List Child) → within a c ≡ true → Holds a cs → Holds c cs
+within_so (leaf_of ks) c cs h s = leaves_so ks c cs h s
+within_so (node_of ks) c cs h s = nodes_so ks c cs h s
+within_so spoilt c cs h s = spoilt_so c cs h s
+within_so (a or b) c cs h (by_first s) = within_so a c cs (and_left (within a c) (within b c) h) s
+within_so (a or b) c cs h (by_second s) = within_so b c cs (and_right (within a c) (within b c) h) s
+within_so a c cs h s = absurd cc
+
+way_if : (b : Bool) (v w : Outcome) (a : Content) (e : Outcome × Content) (k : List (Outcome × Content))
+    (p q : Stand) → (b ≡ true → w ≡ e.0) → v ≡ w →
+    (if b then within a e.1 else end_among w (contents a []) k) ≡ true →
+    (end_among w (contents a []) k ≡ true → Brought k v p q) → Part p.forest p.below a q.forest q.below →
+    Brought (e ∷ k) v p q
+way_if true v w a e k p q i j h f x =
+    subst (λ (u : Outcome). Brought (e ∷ k) u p q) (sym j)
+    (this_way (i refl)
+    (record {
+      new = x.new;
+      forest = x.forest;
+      below = x.below;
+      holds = within_so a e.1 (children_of x.new) h x.holds;
+      so = x.so;
+    }))
+way_if false v w a e k p q i j h f x = other_way (f h)
+
+end_so : (k : List (Outcome × Content)) (v w : Outcome) (x : Contents) (p q : Stand) → v ≡ w →
+    end_among w x k ≡ true → Is p.forest p.below x q → Brought k v p q
+end_so k v w astray p q i h a = absurd cc
+end_so k v w (contents a (b ∷ os)) p q i h x = absurd cc
+end_so [] v w (contents a []) p q i h x = absurd cc
+end_so (e ∷ k) v w (contents a []) p q i h x =
+    way_if (same_outcome w e.0) v w a e k p q (same_is w e.0) i h (λ j. end_so k v w (contents a []) p q i j x) x
+
+all_so : (l : Ends) (k : List (Outcome × Content)) (v : Outcome) (p q : Stand) → all_among l k ≡ true →
+    Among p.forest p.below l v q → Brought k v p q
+all_so [] k v p q h a = elim a [ ]
+all_so (e ∷ l) k v p q h (this_one i c) = end_so k v e.0 e.1 p q i (and_left (end_among e.0 e.1 k) _ h) c
+all_so (e ∷ l) k v p q h (later_one a) = all_so l k v p q (and_right (end_among e.0 e.1 k) _ h) a
+
+-- what stands there at the beginning
+nothing_yet : (p : Stand) → Is p.forest p.below (contents nothing []) p
+nothing_yet p = record { new = none; forest = refl; below = refl; holds = no_child; so = tt }
+
+-- every rule, by its arguments
+expr_keeps : (a b : Bool) (bp : ℕ) → Keeps (knot.ExprBp (record { forbid_structs = a; prefer_stmt = b }) bp)
+expr_keeps true true bp = expr_keeps_no_structs_first bp
+expr_keeps true false bp = expr_keeps_no_structs bp
+expr_keeps false true bp = expr_keeps_structs_first bp
+expr_keeps false false bp = expr_keeps_structs bp
+
+type_keeps : (b : Bool) → Keeps (knot.TypeWithBoundsCond b)
+type_keeps true = type_with_bounds_keeps
+type_keeps false = type_without_bounds_keeps
+
+stmt_keeps : (s : Semicolon) → Keeps (knot.Stmt s)
+stmt_keeps semicolon.Required = stmt_required_keeps
+stmt_keeps semicolon.Optional = stmt_optional_keeps
+stmt_keeps semicolon.Forbidden = stmt_forbidden_keeps
+
+-- Every rule's script keeps to what is claimed of the rule.
+pub each_keeps : (c : Rule) → Keeps c
+each_keeps (knot.ExprBp r bp) = expr_keeps r.forbid_structs r.prefer_stmt bp
+each_keeps (knot.TypeWithBoundsCond b) = type_keeps b
+each_keeps knot.PathTypeBounds = path_type_bounds_keeps
+each_keeps knot.GenericArg = generic_arg_keeps
+each_keeps knot.GenericParamList = generic_param_list_keeps
+each_keeps knot.BoundsWithoutColon = bounds_keep
+each_keeps knot.WhereClause = where_clause_keeps
+each_keeps knot.Pattern = pattern_keeps
+each_keeps knot.PatternSingle = pattern_single_keeps
+each_keeps knot.ArmPattern = arm_pattern_keeps
+each_keeps (knot.Stmt s) = stmt_keeps s
+each_keeps knot.IfExpr = if_expr_keeps
+each_keeps (knot.ItemOrMacro a b) = item_keeps a b
+each_keeps knot.UseTree = use_tree_keeps
+each_keeps knot.Meta = meta_keeps
+each_keeps knot.CfgPredicate = cfg_predicate_keeps
+each_keeps knot.TokenTree = token_tree_keeps
+
+-- Every rule brings what is claimed of it, with any number of rules inside one another.
+pub all_bring : (n : ℕ) → BringsSo n
+all_bring zero c p q v e = no_end e
+all_bring (suc n) c p q v e =
+    all_so (ends (script_of c) (contents nothing [])) (brings c) v p q (each_keeps c)
+    (keeps n (all_bring n) (script_of c) (contents nothing []) p.forest p.below p q v e (nothing_yet p))
+
+-- Nodes that are so wherever they stand, and all nodes of a forest.
+pub shapes_of : (f : Forest) → AllSo Claimed f → HaveShapes f
+shapes_of f a place kind children n w = found Claimed n a w
+
+pub all_of : (f : Forest) → HaveShapes f → AllSo Claimed f
+all_of none h = tt
+all_of (node f k c) h =
+    (
+      all_of f (λ place kind children n w. h place kind children (before_node n) w),
+      all_of c (λ place kind children n w. h _ kind children (in_last_node n) w),
+      λ w. h _ k c last_node w,
+    )
+all_of (leaf f k w) h = all_of f (λ place kind children n u. h place kind children (before_leaf n) u)
+all_of (message f m) h = all_of f (λ place kind children n u. h place kind children (before_message n) u)
+all_of (split f d) h = all_of f (λ place kind children n u. h place kind children (before_split n) u)
+
+-- what a rule brings is so
+brought_so : (k : List (Outcome × Content)) (v : Outcome) (p q : Stand) → Brought k v p q → AllSo Claimed p.forest →
+    AllSo Claimed q.forest
+brought_so k v p q (this_way i x) a =
+    subst (λ (f : Forest). AllSo Claimed f) (sym x.forest) (all_so-⧺ Claimed p.forest x.new a x.so)
+brought_so (e ∷ k) v p q (other_way b) a = brought_so k v p q b a
+
+-- Rules add nodes that have the children of their kinds.
+pub rules_keep : RulesKeepShapes
+rules_keep n c p q v e h =
+    shapes_of q.forest (brought_so (brings c) v p q (all_bring n c p q v e) (all_of p.forest h))
+
+-- what a known end has appended
+known_so : (x : Contents) (p q : Stand) → is_known x ≡ true → Is p.forest p.below x q → AllSo Claimed p.forest →
+    AllSo Claimed q.forest
+known_so astray p q h i a = absurd cc
+known_so (contents c (b ∷ os)) p q h i a = absurd cc
+known_so (contents c []) p q h i a =
+    subst (λ (f : Forest). AllSo Claimed f) (sym i.forest) (all_so-⧺ Claimed p.forest i.new a i.so)
+
+all_known_so : (l : Ends) (v : Outcome) (p q : Stand) → all_known l ≡ true → Among p.forest p.below l v q →
+    AllSo Claimed p.forest → AllSo Claimed q.forest
+all_known_so [] v p q h a x = elim a [ ]
+all_known_so (e ∷ l) v p q h (this_one i c) x = known_so e.1 p q (and_left (is_known e.1) (all_known l) h) c x
+all_known_so (e ∷ l) v p q h (later_one a) x = all_known_so l v p q (and_right (is_known e.1) (all_known l) h) a x
+
+-- A script whose ends are known adds nodes that have the children of their kinds.
+pub script_so : (n : ℕ) (s : Script Rule) → knows s ≡ true → (p q : Stand) (v : Outcome) →
+    exec (run_of n) s p ≡ Some (q, v) → HaveShapes p.forest → HaveShapes q.forest
+script_so n s h p q v e a =
+    shapes_of q.forest
+    (all_known_so (ends s (contents nothing [])) v p q h
+    (keeps n (all_bring n) s (contents nothing []) p.forest p.below p q v e (nothing_yet p)) (all_of p.forest a))
+
+-- no node stands in no tree
+no_nodes : HaveShapes none
+no_nodes place kind children n w = elim n [ ]
+
+-- From nothing on all nodes are so.
+pub script_from_none : (n : ℕ) (s : Script Rule) → knows s ≡ true → (p q : Stand) (v : Outcome) →
+    exec (run_of n) s p ≡ Some (q, v) → p.forest ≡ none → HaveShapes q.forest
+script_from_none n s h p q v e i =
+    script_so n s h p q v e (subst (λ (f : Forest). HaveShapes f) (sym i) no_nodes)
+
+none-⧺ : (f : Forest) → none ⧺ f ≡ f
+none-⧺ none = refl
+none-⧺ (node f k c) = ap (λ (x : Forest). node x k c) (none-⧺ f)
+none-⧺ (leaf f k w) = ap (λ (x : Forest). leaf x k w) (none-⧺ f)
+none-⧺ (message f m) = ap (λ (x : Forest). message x m) (none-⧺ f)
+none-⧺ (split f d) = ap (λ (x : Forest). split x d) (none-⧺ f)
+
+-- what may stand under a node of a kind
+stand_so : (kind : ℕ) (x : Contents) (p q : Stand) → may_stand kind x ≡ true → p.forest ≡ none →
+    Is p.forest p.below x q → AllSo Claimed (node none kind q.forest)
+stand_so kind astray p q h e i = absurd cc
+stand_so kind (contents c (b ∷ os)) p q h e i = absurd cc
+stand_so kind (contents c []) p q h e i =
+    let f : q.forest ≡ i.new = i.forest ∙ (ap (λ (y : Forest). y ⧺ i.new) e ∙ none-⧺ i.new) in
+    subst (λ (y : Forest). AllSo Claimed (node none kind y)) (sym f)
+    (tt, i.so, λ w. runs_so (model kind) c h (children_of i.new) i.holds w)
+
+all_stand_so : (kind : ℕ) (l : Ends) (v : Outcome) (p q : Stand) → all_stand kind l ≡ true → p.forest ≡ none →
+    Among p.forest p.below l v q → AllSo Claimed (node none kind q.forest)
+all_stand_so kind [] v p q h e a = elim a [ ]
+all_stand_so kind (x ∷ l) v p q h e (this_one i c) =
+    stand_so kind x.1 p q (and_left (may_stand kind x.1) (all_stand kind l) h) e c
+all_stand_so kind (x ∷ l) v p q h e (later_one a) =
+    all_stand_so kind l v p q (and_right (may_stand kind x.1) (all_stand kind l) h) e a
+
+-- What a script makes from nothing on may stand under a node of a kind: all nodes are so, with that one.
+pub root_so : (n kind : ℕ) (s : Script Rule) → stands_under kind s ≡ true → (p q : Stand) (v : Outcome) →
+    exec (run_of n) s p ≡ Some (q, v) → p.forest ≡ none → HaveShapes (node none kind q.forest)
+root_so n kind s h p q v e i =
+    shapes_of (node none kind q.forest)
+    (all_stand_so kind (ends s (contents nothing [])) v p q h i
+    (keeps n (all_bring n) s (contents nothing []) p.forest p.below p q v e (nothing_yet p)))

@@ -1,0 +1,9 @@
+-- Items keep to what they bring, whatever ends them and wherever they stand.
+use Rattle.std.proofs.Common.{◌≡◌, ℕ, Bool, true, false, refl}
+use Rattle.rap_grammar_scripts.specs.declared.rule.Rule.TheVariants as knot
+use Rattle.rap_grammar_scripts.proofs.Scripts.{scripts}
+use Rattle.rap_grammar_shapes.proofs.Small.{Keeps}
+
+pub item_keeps : (a : Bool) (b : Bool) → Keeps (knot.ItemOrMacro a b)
+unfolding scripts
+item_keeps a b = refl

@@ -1,0 +1,34 @@
+-- Whether it is known what a script appends, and whether that may stand under a node of a kind.
+use Rattle.std.specs.Prelude.{◌&&◌, ℕ, Bool, true, false, List, [], ◌∷◌}
+use Rattle.rap_grammar_scripts.specs.Script.{Script}
+use Rattle.rap_grammar_scripts.specs.declared.rule.Rule.{Rule}
+use Rattle.rap_grammar_shapes.specs.Models.{model}
+use Rattle.rap_grammar_shapes.proofs.Content.{nothing}
+use Rattle.rap_grammar_shapes.proofs.Ends.{Contents, astray, contents, Ends, ends}
+use Rattle.rap_grammar_shapes.proofs.Runs.{runs}
+
+-- Whether all ends of a script are known, and it leaves the open nodes as they were.
+abbrev pub is_known : Contents → Bool
+is_known astray = false
+is_known (contents a []) = true
+is_known (contents a (b ∷ os)) = false
+
+abbrev pub all_known : Ends → Bool
+all_known [] = true
+all_known (e ∷ l) = is_known e.1 && all_known l
+
+abbrev pub knows : Script Rule → Bool
+knows s = all_known (ends s (contents nothing []))
+
+-- Whether, besides, all that it has appended may stand under a node of a kind.
+abbrev pub may_stand : ℕ → Contents → Bool
+may_stand kind astray = false
+may_stand kind (contents a []) = runs (model kind) a
+may_stand kind (contents a (b ∷ os)) = false
+
+abbrev pub all_stand : ℕ → Ends → Bool
+all_stand kind [] = true
+all_stand kind (e ∷ l) = may_stand kind e.1 && all_stand kind l
+
+abbrev pub stands_under : ℕ → Script Rule → Bool
+stands_under kind s = all_stand kind (ends s (contents nothing []))

@@ -1,0 +1,17 @@
+pub mod AllRules
+pub mod Claims
+pub mod Content
+pub mod ContentLaws
+pub mod Ends
+pub mod EntryRules
+pub mod ExprRules
+pub mod GenericRules
+pub mod ItemRules
+pub mod Keeps
+pub mod Known
+pub mod PatternRules
+pub mod Runs
+pub mod Small
+pub mod StmtRules
+pub mod Trees
+pub mod TypeRules

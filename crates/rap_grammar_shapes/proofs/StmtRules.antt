@@ -1,0 +1,18 @@
+-- Statements keep to what they bring, however they may end.
+use Rattle.std.proofs.Common.{◌≡◌, ℕ, Bool, true, false, refl}
+use Rattle.rap_grammar_scripts.specs.declared.rule.Rule.TheVariants as knot
+use Rattle.rap_grammar_scripts.proofs.Scripts.{scripts}
+use Rattle.rap_grammar_shapes.proofs.Small.{Keeps}
+use Rattle.rap_grammar_scripts.specs.declared.arguments.Semicolon.TheVariants as semicolon
+
+pub stmt_required_keeps : Keeps (knot.Stmt semicolon.Required)
+unfolding scripts
+stmt_required_keeps = refl
+
+pub stmt_optional_keeps : Keeps (knot.Stmt semicolon.Optional)
+unfolding scripts
+stmt_optional_keeps = refl
+
+pub stmt_forbidden_keeps : Keeps (knot.Stmt semicolon.Forbidden)
+unfolding scripts
+stmt_forbidden_keeps = refl

@@ -1,0 +1,17 @@
+-- The rules of types keep to what they bring.
+use Rattle.std.proofs.Common.{◌≡◌, ℕ, Bool, true, false, refl}
+use Rattle.rap_grammar_scripts.specs.declared.rule.Rule.TheVariants as knot
+use Rattle.rap_grammar_scripts.proofs.Scripts.{scripts}
+use Rattle.rap_grammar_shapes.proofs.Small.{Keeps}
+
+pub type_with_bounds_keeps : Keeps (knot.TypeWithBoundsCond true)
+unfolding scripts
+type_with_bounds_keeps = refl
+
+pub type_without_bounds_keeps : Keeps (knot.TypeWithBoundsCond false)
+unfolding scripts
+type_without_bounds_keeps = refl
+
+pub path_type_bounds_keeps : Keeps knot.PathTypeBounds
+unfolding scripts
+path_type_bounds_keeps = refl

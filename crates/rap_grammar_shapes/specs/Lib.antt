@@ -1,0 +1,4 @@
+pub mod Automata
+pub mod HaveShapes
+pub mod Models
+pub mod Whole
