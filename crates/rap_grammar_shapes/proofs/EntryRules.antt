@@ -18,92 +18,127 @@ use Rattle.rap_grammar_scripts.specs.UseItem.{use_tree_list}
 use Rattle.rap_grammar_scripts.specs.Visibility.{opt_visibility}
 use Rattle.rap_grammar_scripts.specs.declared.arguments.Semicolon.TheVariants as semicolon
 use Rattle.rap_grammar_scripts.proofs.Scripts.{scripts}
+use Rattle.rap_grammar_shapes.specs.HaveShapes.{RootsHaveShapes, AloneHaveShapes}
+use Rattle.rap_grammar_shapes.proofs.AllRules.{root_so, script_so}
 use Rattle.rap_grammar_shapes.proofs.Known.{knows, stands_under}
 
-pub file_stand : stands_under SOURCE_FILE source_file ≡ true
+file_stand : stands_under SOURCE_FILE source_file ≡ true
 unfolding scripts
 file_stand = refl
 
-pub items_stand : stands_under MACRO_ITEMS (mod_contents false) ≡ true
+items_stand : stands_under MACRO_ITEMS (mod_contents false) ≡ true
 unfolding scripts
 items_stand = refl
 
-pub statements_stand : stands_under MACRO_STMTS macro_stmts ≡ true
+statements_stand : stands_under MACRO_STMTS macro_stmts ≡ true
 unfolding scripts
 statements_stand = refl
 
-pub visibility_known : knows (opt_visibility false) ≡ true
+visibility_known : knows (opt_visibility false) ≡ true
 unfolding scripts
 visibility_known = refl
 
-pub block_known : knows block_expr ≡ true
+block_known : knows block_expr ≡ true
 unfolding scripts
 block_known = refl
 
-pub statement_known : knows (stmt semicolon.Forbidden) ≡ true
+statement_known : knows (stmt semicolon.Forbidden) ≡ true
 unfolding scripts
 statement_known = refl
 
-pub single_pattern_known : knows pattern_single ≡ true
+single_pattern_known : knows pattern_single ≡ true
 unfolding scripts
 single_pattern_known = refl
 
-pub pattern_known : knows pattern ≡ true
+pattern_known : knows pattern ≡ true
 unfolding scripts
 pattern_known = refl
 
-pub type_known : knows type_ ≡ true
+type_known : knows type_ ≡ true
 unfolding scripts
 type_known = refl
 
-pub expression_known : knows expr ≡ true
+expression_known : knows expr ≡ true
 unfolding scripts
 expression_known = refl
 
-pub path_known : knows type_path ≡ true
+path_known : knows type_path ≡ true
 unfolding scripts
 path_known = refl
 
-pub item_known : knows (item_or_macro true true) ≡ true
+item_known : knows (item_or_macro true true) ≡ true
 unfolding scripts
 item_known = refl
 
-pub meta_known : knows meta ≡ true
+meta_known : knows meta ≡ true
 unfolding scripts
 meta_known = refl
 
-pub record_fields_known : knows record_field_list ≡ true
+record_fields_known : knows record_field_list ≡ true
 unfolding scripts
 record_fields_known = refl
 
-pub record_expr_fields_known : knows record_expr_field_list ≡ true
+record_expr_fields_known : knows record_expr_field_list ≡ true
 unfolding scripts
 record_expr_fields_known = refl
 
-pub variants_known : knows variant_list ≡ true
+variants_known : knows variant_list ≡ true
 unfolding scripts
 variants_known = refl
 
-pub arms_known : knows match_arm_list ≡ true
+arms_known : knows match_arm_list ≡ true
 unfolding scripts
 arms_known = refl
 
-pub use_trees_known : knows use_tree_list ≡ true
+use_trees_known : knows use_tree_list ≡ true
 unfolding scripts
 use_trees_known = refl
 
-pub extern_items_known : knows extern_item_list ≡ true
+extern_items_known : knows extern_item_list ≡ true
 unfolding scripts
 extern_items_known = refl
 
-pub token_tree_known : knows token_tree ≡ true
+token_tree_known : knows token_tree ≡ true
 unfolding scripts
 token_tree_known = refl
 
-pub assoc_items_known : knows assoc_item_list ≡ true
+assoc_items_known : knows assoc_item_list ≡ true
 unfolding scripts
 assoc_items_known = refl
 
-pub items_of_list_known : knows item_list ≡ true
+items_of_list_known : knows item_list ≡ true
 unfolding scripts
 items_of_list_known = refl
+
+-- What the entries make over the whole input has shapes.
+pub roots_so : RootsHaveShapes
+roots_so =
+    record {
+      file = λ n p q v e i. root_so n SOURCE_FILE source_file file_stand p q v e i;
+      items = λ n p q v e i. root_so n MACRO_ITEMS (mod_contents false) items_stand p q v e i;
+      statements = λ n p q v e i. root_so n MACRO_STMTS macro_stmts statements_stand p q v e i;
+    }
+
+-- What is read alone has shapes.
+pub alone_so : AloneHaveShapes
+alone_so =
+    (λ n p q v e h. script_so n (opt_visibility false) visibility_known p q v e h,
+    (λ n p q v e h. script_so n block_expr block_known p q v e h,
+    (λ n p q v e h. script_so n (stmt semicolon.Forbidden) statement_known p q v e h,
+    (λ n p q v e h. script_so n pattern_single single_pattern_known p q v e h,
+    (λ n p q v e h. script_so n pattern pattern_known p q v e h,
+    (λ n p q v e h. script_so n type_ type_known p q v e h,
+    (λ n p q v e h. script_so n expr expression_known p q v e h,
+    (λ n p q v e h. script_so n type_path path_known p q v e h,
+    (λ n p q v e h. script_so n (item_or_macro true true) item_known p q v e h,
+    (λ n p q v e h. script_so n meta meta_known p q v e h,
+    (λ n p q v e h. script_so n record_field_list record_fields_known p q v e h,
+    (λ n p q v e h. script_so n record_expr_field_list record_expr_fields_known p q v e h,
+    (λ n p q v e h. script_so n variant_list variants_known p q v e h,
+    (λ n p q v e h. script_so n match_arm_list arms_known p q v e h,
+    (λ n p q v e h. script_so n use_tree_list use_trees_known p q v e h,
+    (λ n p q v e h. script_so n extern_item_list extern_items_known p q v e h,
+    (λ n p q v e h. script_so n token_tree token_tree_known p q v e h,
+    (λ n p q v e h. script_so n assoc_item_list assoc_items_known p q v e h,
+    (λ n p q v e h. script_so n item_list items_of_list_known p q v e h,
+    tt)))))))))))))))))))
