@@ -19,10 +19,12 @@ use Rattle.rap_grammar_scripts.proofs.Tally.{same_is}
 use Rattle.rap_grammar_table.specs.Known.{among, every_one}
 use Rattle.rap_grammar_table.specs.Shapes.{Child, children_of}
 use Rattle.rap_grammar_table.proofs.Known.{by_or, every_so}
-use Rattle.rap_grammar_table.proofs.Shaped.{AllSo, all_so-⧺, found}
-use Rattle.rap_grammar_shapes.specs.Automata.{Accepts}
+use Rattle.rap_grammar_table.proofs.Shaped.{OfChildren, AllSo, all_so-⧺, found}
 use Rattle.rap_grammar_shapes.specs.HaveShapes.{HaveShapes, RulesKeepShapes}
+use Rattle.rap_grammar_shapes.specs.Shape.{Spells}
+use Rattle.rap_grammar_shapes.specs.Shapes.{shape_of}
 use Rattle.rap_grammar_shapes.specs.Whole.{IsWhole}
+use Rattle.rap_grammar_shapes.proofs.Along.{spelled}
 use Rattle.rap_grammar_shapes.proofs.Claims.{brings}
 use Rattle.rap_grammar_shapes.proofs.Content.{Content, nothing, leaf_of, any_leaf, node_of, a_float, spoilt, ◌⋅◌, ◌or◌, any_of, Holds, no_child, a_leaf, a_node, not_whole, by_first, by_second, choose}
 use Rattle.rap_grammar_shapes.proofs.Ends.{Contents, astray, contents, Ends, ends, has_leaves, has_nodes, has_spoilt, within, end_among, all_among, brings_all}
@@ -31,7 +33,7 @@ use Rattle.rap_grammar_shapes.proofs.GenericRules.{generic_arg_keeps, generic_pa
 use Rattle.rap_grammar_shapes.proofs.ItemRules.{item_keeps}
 use Rattle.rap_grammar_shapes.proofs.Keeps.{Among, this_one, later_one, Brought, this_way, other_way, BringsSo, keeps}
 use Rattle.rap_grammar_shapes.proofs.Known.{is_known, all_known, knows, may_stand, all_stand, stands_under}
-use Rattle.rap_grammar_shapes.specs.Models.{model}
+use Rattle.rap_grammar_shapes.proofs.Models.{model}
 use Rattle.rap_grammar_shapes.proofs.PatternRules.{pattern_keeps, pattern_single_keeps, arm_pattern_keeps}
 use Rattle.rap_grammar_shapes.proofs.Runs.{runs, runs_so}
 use Rattle.rap_grammar_shapes.proofs.Small.{Keeps, token_tree_keeps, cfg_predicate_keeps, meta_keeps, use_tree_keeps, if_expr_keeps}
@@ -147,27 +149,40 @@ all_bring (suc n) c p q v e =
     all_so (ends (script_of c) (contents nothing [])) (brings c) v p q (each_keeps c)
     (keeps n (all_bring n) (script_of c) (contents nothing []) p.forest p.below p q v e (nothing_yet p))
 
--- Nodes that are so wherever they stand, and all nodes of a forest.
-pub shapes_of : (f : Forest) → AllSo Claimed f → HaveShapes f
-shapes_of f a place kind children n w = found Claimed n a w
+-- a node is of the shape of its kind
+abbrev pub Spelled : OfChildren
+Spelled kind children = IsWhole children → Spells (shape_of kind) children
 
-pub all_of : (f : Forest) → HaveShapes f → AllSo Claimed f
+-- What automata accept is of the shapes.
+spelled_all : (f : Forest) → AllSo Claimed f → AllSo Spelled f
+spelled_all none h = tt
+spelled_all (node f k c) h =
+    (spelled_all f h.0, spelled_all c h.1, λ w. spelled k (children_of c) (h.2 w))
+spelled_all (leaf f k w) h = spelled_all f h
+spelled_all (message f m) h = spelled_all f h
+spelled_all (split f d) h = spelled_all f h
+
+-- Nodes that are so wherever they stand, and all nodes of a forest.
+pub shapes_of : (f : Forest) → AllSo Spelled f → HaveShapes f
+shapes_of f a place kind children n w = found Spelled n a w
+
+pub all_of : (f : Forest) → HaveShapes f → AllSo Spelled f
 all_of none h = tt
-all_of (node f k c) h =
-    (
-      all_of f (λ place kind children n w. h place kind children (before_node n) w),
-      all_of c (λ place kind children n w. h _ kind children (in_last_node n) w),
-      λ w. h _ k c last_node w,
-    )
+all_of (node f k c) h = (
+  all_of f (λ place kind children n w. h place kind children (before_node n) w),
+  all_of c (λ place kind children n w. h _ kind children (in_last_node n) w),
+  λ w. h _ k c last_node w,
+)
 all_of (leaf f k w) h = all_of f (λ place kind children n u. h place kind children (before_leaf n) u)
 all_of (message f m) h = all_of f (λ place kind children n u. h place kind children (before_message n) u)
 all_of (split f d) h = all_of f (λ place kind children n u. h place kind children (before_split n) u)
 
 -- what a rule brings is so
-brought_so : (k : List (Outcome × Content)) (v : Outcome) (p q : Stand) → Brought k v p q → AllSo Claimed p.forest →
-    AllSo Claimed q.forest
+brought_so : (k : List (Outcome × Content)) (v : Outcome) (p q : Stand) → Brought k v p q → AllSo Spelled p.forest →
+    AllSo Spelled q.forest
 brought_so k v p q (this_way i x) a =
-    subst (λ (f : Forest). AllSo Claimed f) (sym x.forest) (all_so-⧺ Claimed p.forest x.new a x.so)
+    subst (λ (f : Forest). AllSo Spelled f) (sym x.forest)
+    (all_so-⧺ Spelled p.forest x.new a (spelled_all x.new x.so))
 brought_so (e ∷ k) v p q (other_way b) a = brought_so k v p q b a
 
 -- Rules add nodes that have the children of their kinds.
@@ -176,15 +191,16 @@ rules_keep n c p q v e h =
     shapes_of q.forest (brought_so (brings c) v p q (all_bring n c p q v e) (all_of p.forest h))
 
 -- what a known end has appended
-known_so : (x : Contents) (p q : Stand) → is_known x ≡ true → Is p.forest p.below x q → AllSo Claimed p.forest →
-    AllSo Claimed q.forest
+known_so : (x : Contents) (p q : Stand) → is_known x ≡ true → Is p.forest p.below x q → AllSo Spelled p.forest →
+    AllSo Spelled q.forest
 known_so astray p q h i a = absurd cc
 known_so (contents c (b ∷ os)) p q h i a = absurd cc
 known_so (contents c []) p q h i a =
-    subst (λ (f : Forest). AllSo Claimed f) (sym i.forest) (all_so-⧺ Claimed p.forest i.new a i.so)
+    subst (λ (f : Forest). AllSo Spelled f) (sym i.forest)
+    (all_so-⧺ Spelled p.forest i.new a (spelled_all i.new i.so))
 
 all_known_so : (l : Ends) (v : Outcome) (p q : Stand) → all_known l ≡ true → Among p.forest p.below l v q →
-    AllSo Claimed p.forest → AllSo Claimed q.forest
+    AllSo Spelled p.forest → AllSo Spelled q.forest
 all_known_so [] v p q h a x = elim a [ ]
 all_known_so (e ∷ l) v p q h (this_one i c) x = known_so e.1 p q (and_left (is_known e.1) (all_known l) h) c x
 all_known_so (e ∷ l) v p q h (later_one a) x = all_known_so l v p q (and_right (is_known e.1) (all_known l) h) a x
@@ -237,5 +253,6 @@ pub root_so : (n kind : ℕ) (s : Script Rule) → stands_under kind s ≡ true 
     exec (run_of n) s p ≡ Some (q, v) → p.forest ≡ none → HaveShapes (node none kind q.forest)
 root_so n kind s h p q v e i =
     shapes_of (node none kind q.forest)
+    (spelled_all (node none kind q.forest)
     (all_stand_so kind (ends s (contents nothing [])) v p q h i
-    (keeps n (all_bring n) s (contents nothing []) p.forest p.below p q v e (nothing_yet p)))
+    (keeps n (all_bring n) s (contents nothing []) p.forest p.below p q v e (nothing_yet p))))

@@ -302,19 +302,19 @@ left_spoils : (cs ds : List Child) → are_sound cs ≡ false → are_sound (cs 
 left_spoils [] ds h = absurd cc
 left_spoils (c ∷ cs) ds h = spoils_if (is_sound c) cs ds h (λ i. left_spoils cs ds i)
   where
-  spoils_if : (t : Bool) (cs ds : List Child) → (t && are_sound cs) ≡ false →
-      (are_sound cs ≡ false → are_sound (cs ++ ds) ≡ false) → (t && are_sound (cs ++ ds)) ≡ false
-  spoils_if true cs ds h f = f h
-  spoils_if false cs ds h f = refl
+    spoils_if : (t : Bool) (cs ds : List Child) → (t && are_sound cs) ≡ false →
+        (are_sound cs ≡ false → are_sound (cs ++ ds) ≡ false) → (t && are_sound (cs ++ ds)) ≡ false
+    spoils_if true cs ds h f = f h
+    spoils_if false cs ds h f = refl
 
 -- what stands before what is not sound is of no account
 pub right_spoils : (cs ds : List Child) → are_sound ds ≡ false → are_sound (cs ++ ds) ≡ false
 right_spoils [] ds h = h
 right_spoils (c ∷ cs) ds h = spoils_too (is_sound c) (are_sound (cs ++ ds)) (right_spoils cs ds h)
   where
-  spoils_too : (t u : Bool) → u ≡ false → (t && u) ≡ false
-  spoils_too true u h = h
-  spoils_too false u h = refl
+    spoils_too : (t u : Bool) → u ≡ false → (t && u) ≡ false
+    spoils_too true u h = h
+    spoils_too false u h = refl
 
 -- both parts of whole children are whole
 pub whole_left : (cs ds : List Child) → IsWhole (cs ++ ds) → IsWhole cs
@@ -322,9 +322,9 @@ whole_left [] ds h = refl
 whole_left (c ∷ cs) ds h =
     whole_both (is_sound c) (are_sound cs) (and_left (is_sound c) _ h) (whole_left cs ds (and_right (is_sound c) _ h))
   where
-  whole_both : (t u : Bool) → t ≡ true → u ≡ true → (t && u) ≡ true
-  whole_both true u h i = i
-  whole_both false u h i = absurd cc
+    whole_both : (t u : Bool) → t ≡ true → u ≡ true → (t && u) ≡ true
+    whole_both true u h i = i
+    whole_both false u h i = absurd cc
 
 pub whole_right : (cs ds : List Child) → IsWhole (cs ++ ds) → IsWhole ds
 whole_right [] ds h = h

@@ -8,7 +8,7 @@ use Rattle.rap_grammar_scripts.specs.declared.rule.Rule.{Rule}
 use Rattle.rap_grammar_table.specs.Known.{every_one, among}
 use Rattle.rap_grammar_shapes.proofs.Claims.{brings}
 use Rattle.rap_grammar_shapes.proofs.Content.{Content, nothing, leaf_of, any_leaf, node_of, a_float, spoilt, ◌⋅◌, ◌or◌, any_of, choose, equal, either_of, onto, last_nodes, before, many}
-use Rattle.rap_grammar_shapes.specs.Models.{model}
+use Rattle.rap_grammar_shapes.proofs.Models.{model}
 use Rattle.rap_grammar_shapes.proofs.Runs.{runs, comes_back}
 
 -- Not known; or what stands under the newest open node, behind what stood there when the script began if it is that

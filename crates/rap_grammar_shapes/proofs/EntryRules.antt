@@ -121,24 +121,61 @@ roots_so =
 
 -- What is read alone has shapes.
 pub alone_so : AloneHaveShapes
-alone_so =
-    (λ n p q v e h. script_so n (opt_visibility false) visibility_known p q v e h,
-    (λ n p q v e h. script_so n block_expr block_known p q v e h,
-    (λ n p q v e h. script_so n (stmt semicolon.Forbidden) statement_known p q v e h,
-    (λ n p q v e h. script_so n pattern_single single_pattern_known p q v e h,
-    (λ n p q v e h. script_so n pattern pattern_known p q v e h,
-    (λ n p q v e h. script_so n type_ type_known p q v e h,
-    (λ n p q v e h. script_so n expr expression_known p q v e h,
-    (λ n p q v e h. script_so n type_path path_known p q v e h,
-    (λ n p q v e h. script_so n (item_or_macro true true) item_known p q v e h,
-    (λ n p q v e h. script_so n meta meta_known p q v e h,
-    (λ n p q v e h. script_so n record_field_list record_fields_known p q v e h,
-    (λ n p q v e h. script_so n record_expr_field_list record_expr_fields_known p q v e h,
-    (λ n p q v e h. script_so n variant_list variants_known p q v e h,
-    (λ n p q v e h. script_so n match_arm_list arms_known p q v e h,
-    (λ n p q v e h. script_so n use_tree_list use_trees_known p q v e h,
-    (λ n p q v e h. script_so n extern_item_list extern_items_known p q v e h,
-    (λ n p q v e h. script_so n token_tree token_tree_known p q v e h,
-    (λ n p q v e h. script_so n assoc_item_list assoc_items_known p q v e h,
-    (λ n p q v e h. script_so n item_list items_of_list_known p q v e h,
-    tt)))))))))))))))))))
+alone_so = (
+  λ n p q v e h. script_so n (opt_visibility false) visibility_known p q v e h,
+  (
+    λ n p q v e h. script_so n block_expr block_known p q v e h,
+    (
+      λ n p q v e h. script_so n (stmt semicolon.Forbidden) statement_known p q v e h,
+      (
+        λ n p q v e h. script_so n pattern_single single_pattern_known p q v e h,
+        (
+          λ n p q v e h. script_so n pattern pattern_known p q v e h,
+          (
+            λ n p q v e h. script_so n type_ type_known p q v e h,
+            (
+              λ n p q v e h. script_so n expr expression_known p q v e h,
+              (
+                λ n p q v e h. script_so n type_path path_known p q v e h,
+                (
+                  λ n p q v e h. script_so n (item_or_macro true true) item_known p q v e h,
+                  (
+                    λ n p q v e h. script_so n meta meta_known p q v e h,
+                    (
+                      λ n p q v e h. script_so n record_field_list record_fields_known p q v e h,
+                      (
+                        λ n p q v e h. script_so n record_expr_field_list record_expr_fields_known p q v e h,
+                        (
+                          λ n p q v e h. script_so n variant_list variants_known p q v e h,
+                          (
+                            λ n p q v e h. script_so n match_arm_list arms_known p q v e h,
+                            (
+                              λ n p q v e h. script_so n use_tree_list use_trees_known p q v e h,
+                              (
+                                λ n p q v e h. script_so n extern_item_list extern_items_known p q v e h,
+                                (
+                                  λ n p q v e h. script_so n token_tree token_tree_known p q v e h,
+                                  (
+                                    λ n p q v e h. script_so n assoc_item_list assoc_items_known p q v e h,
+                                    (
+                                      λ n p q v e h. script_so n item_list items_of_list_known p q v e h,
+                                      tt,
+                                    ),
+                                  ),
+                                ),
+                              ),
+                            ),
+                          ),
+                        ),
+                      ),
+                    ),
+                  ),
+                ),
+              ),
+            ),
+          ),
+        ),
+      ),
+    ),
+  ),
+)

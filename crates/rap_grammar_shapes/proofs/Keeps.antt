@@ -287,7 +287,7 @@ unfolding turning
 turns_keep n h l t base stack x zero a b o p q v i w e = no_end e
 turns_keep n h l t base stack x (suc k) a b o p q v i w e =
     let z : Part p.forest p.below nothing p.forest p.below =
-        record { new = none; forest = refl; below = refl; holds = no_child; so = tt } in
+    record { new = none; forest = refl; below = refl; holds = no_child; so = tt } in
     by_again (exec (run_of n) (h a b) p)
     (λ c d r. if ltb (length r.rest) (length p.rest) then turning k (λ c d r. exec (run_of n) (h c d) r) c d r else None)
     (q, v) e
@@ -478,8 +478,8 @@ keeps n o (rule c h) x base stack p q v e k =
 keeps n o (loop h a b) x base stack p q v e k =
     let g : Contents → Ends = λ y. any_flags (λ c d. ends (h c d) y) in
     let all : (y : Contents) (c d : Bool) → EndsSo n (h c d) y (g y) =
-        λ y c d base stack p q v e k.
-        of_flags base stack (λ c d. ends (h c d) y) c d v q (keeps n o (h c d) y base stack p q v e k) in
+    λ y c d base stack p q v e k.
+    of_flags base stack (λ c d. ends (h c d) y) c d v q (keeps n o (h c d) y base stack p q v e k) in
     loop_so n h g all base stack x (suc (length p.rest)) a b p q v k e (turn_in (g (contents nothing [])))
     (turns_keep n h (g (contents nothing [])) (all (contents nothing [])) base stack x (suc (length p.rest)) a b p p q v k
     (at_first (turn_in (g (contents nothing []))) p) e)

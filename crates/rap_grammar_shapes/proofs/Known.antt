@@ -2,7 +2,7 @@
 use Rattle.std.specs.Prelude.{◌&&◌, ℕ, Bool, true, false, List, [], ◌∷◌}
 use Rattle.rap_grammar_scripts.specs.Script.{Script}
 use Rattle.rap_grammar_scripts.specs.declared.rule.Rule.{Rule}
-use Rattle.rap_grammar_shapes.specs.Models.{model}
+use Rattle.rap_grammar_shapes.proofs.Models.{model}
 use Rattle.rap_grammar_shapes.proofs.Content.{nothing}
 use Rattle.rap_grammar_shapes.proofs.Ends.{Contents, astray, contents, Ends, ends}
 use Rattle.rap_grammar_shapes.proofs.Runs.{runs}

@@ -1,4 +1,6 @@
 pub mod AllRules
+pub mod Along
+pub mod Automata
 pub mod Claims
 pub mod Content
 pub mod ContentLaws
@@ -6,9 +8,11 @@ pub mod Ends
 pub mod EntryRules
 pub mod ExprRules
 pub mod GenericRules
+pub mod ItemModels
 pub mod ItemRules
 pub mod Keeps
 pub mod Known
+pub mod Models
 pub mod PatternRules
 pub mod Runs
 pub mod Small

@@ -17,12 +17,12 @@ use Rattle.rap_grammar_table.proofs.Known.{every_so}
 use Rattle.rap_grammar_table.proofs.Look.{same_self}
 use Rattle.rap_grammar_table.proofs.Shaped.{OfChildren, AllSo, all_so-⧺}
 use Rattle.rap_grammar_table.proofs.Spells.{children-⧺, same_last}
-use Rattle.rap_grammar_shapes.specs.Automata.{Accepts}
+use Rattle.rap_grammar_shapes.proofs.Automata.{Accepts}
 use Rattle.rap_grammar_shapes.specs.Whole.{are_sound, IsWhole}
 use Rattle.rap_grammar_shapes.proofs.Content.{Content, nothing, leaf_of, any_leaf, node_of, a_float, spoilt, ◌⋅◌, ◌or◌, any_of, Holds, no_child, a_leaf, some_leaf, a_node, the_float, not_whole, in_order, by_first, by_second, no_more, one_more, choose, equal, equal_kinds, united, either_of, onto, both_kinds, last_nodes, before}
 use Rattle.rap_grammar_shapes.proofs.ContentLaws.{by_choice, by_chosen, equal_so, equal_kinds_so, united_left, united_right, holds_first, holds_second, holds_onto, whole_left, whole_right, right_spoils}
 use Rattle.rap_grammar_shapes.proofs.Ends.{Contents, astray, contents, equal_older, with_more, opened, node_content, closed_if, closed, preceded_if, with_last, extended_by, extended_if, drawn, float_runs, parted, given_up, joined_if, either}
-use Rattle.rap_grammar_shapes.specs.Models.{model}
+use Rattle.rap_grammar_shapes.proofs.Models.{model}
 use Rattle.rap_grammar_shapes.proofs.Runs.{runs, runs_so, comes_back, back_so}
 
 -- What is claimed of each node: its children are accepted, if no message and no ERROR is among them.
@@ -62,15 +62,14 @@ more base stack a s [] f u b h t x = record {
   so = all_so-⧺ Claimed h.new u h.so x;
 }
 more base stack a s (c ∷ os) f u floor h t x = absurd h
-more base stack a s (c ∷ os) f u (push b k g) h t x =
-    (
-      (
-        subst (λ (cs : List Child). Holds (onto a s) cs) (sym (children-⧺ f u))
+more base stack a s (c ∷ os) f u (push b k g) h t x = (
+  (
+    subst (λ (cs : List Child). Holds (onto a s) cs) (sym (children-⧺ f u))
         (holds_onto a s (children_of f) (children_of u) h.0.0 t),
-        all_so-⧺ Claimed f u h.0.1 x,
-      ),
-      h.1,
-    )
+    all_so-⧺ Claimed f u h.0.1 x,
+  ),
+  h.1,
+)
 
 one_kind : (k : ℕ) → among (k ∷ []) k ≡ true
 one_kind k = or_left (k == k) false (same_self k)
@@ -127,9 +126,9 @@ node_holds k =
     by_choice (λ (x : Content). Holds x (node_child k ∷ [])) (k == ERROR) spoilt (node_of (k ∷ []))
     (λ e. not_whole (no_error (k == ERROR) e)) (λ e. a_node (one_kind k))
   where
-  no_error : (t : Bool) → t ≡ true → (not t && true) ≡ false
-  no_error true e = refl
-  no_error false e = absurd cc
+    no_error : (t : Bool) → t ≡ true → (not t && true) ≡ false
+    no_error true e = refl
+    no_error false e = absurd cc
 
 node_over : (base : Forest) (stack : Stack) (k : ℕ) (b : Content) (os : List Content) (c g : Forest) (s : Stack)
     (t : Bool) → (t ≡ true → Claimed k (children_of c)) → AllSo Claimed c → Stands base stack b os g s → (q : Stand) →
@@ -342,7 +341,7 @@ drawn_claimed : (kind : ℕ) (b : Content) (front inside : Forest) → comes_bac
     Holds b (children_of front) → Claimed kind (children_of inside) → Claimed kind (children_of (front ⧺ inside))
 drawn_claimed kind b front inside e s d w =
     let v : IsWhole (children_of front ++ children_of inside) =
-        subst (λ (cs : List Child). IsWhole cs) (children-⧺ front inside) w in
+    subst (λ (cs : List Child). IsWhole cs) (children-⧺ front inside) w in
     subst (λ (cs : List Child). Accepts (model kind) 0 cs) (sym (children-⧺ front inside))
     (back_so (model kind) b e (children_of front) (children_of inside) s
     (whole_left (children_of front) (children_of inside) v) (d (whole_right (children_of front) (children_of inside) v)))
@@ -357,8 +356,7 @@ drawn_by base stack ks b c os false p e front kind inside i s a x d h q f g = tt
 drawn_by base stack ks b c os true p e front kind inside i s a x d h q f g =
     rw (f, g)
     (more base stack c (node_of ks) os (forest_below p.below) (node none kind (front ⧺ inside)) (far_below p.below) h
-    (a_node i)
-    (
+    (a_node i) (
       tt,
       all_so-⧺ Claimed front inside a x,
       drawn_claimed kind b front inside (every_so (λ k. comes_back (model k) b) ks kind e i) s d,

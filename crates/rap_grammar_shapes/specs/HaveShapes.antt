@@ -23,16 +23,16 @@ use Rattle.rap_grammar_scripts.specs.Visibility.{opt_visibility}
 use Rattle.rap_grammar_scripts.specs.declared.arguments.Semicolon.TheVariants as semicolon
 use Rattle.rap_grammar_scripts.specs.declared.rule.Rule.{Rule}
 use Rattle.rap_grammar_table.specs.Shapes.{children_of}
-use Rattle.rap_grammar_shapes.specs.Automata.{Accepts}
+use Rattle.rap_grammar_shapes.specs.Shape.{Spells}
+use Rattle.rap_grammar_shapes.specs.Shapes.{shape_of}
 use Rattle.rap_grammar_shapes.specs.Whole.{IsWhole}
-use Rattle.rap_grammar_shapes.specs.Models.{model}
 
--- Each node that has no message and no ERROR right under it, wherever it stands, has the children that the automaton of
--- its kind accepts, in order.
+-- Each node that has no message and no ERROR right under it, wherever it stands, has children that the shape of its kind
+-- spells, in order.
 abbrev pub HaveShapes : Forest → Type 0
 HaveShapes forest =
     (place kind : ℕ) (children : Forest) → NodeAt forest place kind children → IsWhole (children_of children) →
-    Accepts (model kind) 0 (children_of children)
+    Spells (shape_of kind) (children_of children)
 
 -- Whatever a recursive rule makes of any input, with any rules inside one another, it adds trees that are so to what is
 -- there: if all nodes were so before, they are so at its end.

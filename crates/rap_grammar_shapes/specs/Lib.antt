@@ -1,4 +1,4 @@
-pub mod Automata
 pub mod HaveShapes
-pub mod Models
+pub mod Shape
+pub mod Shapes
 pub mod Whole

@@ -2,7 +2,7 @@
 ghost use Rattle.rap_grammar_shapes.specs.HaveShapes.{AloneHaveShapes, RootsHaveShapes, RulesKeepShapes};
 
 /// Whatever a recursive rule reads, and with whatever messages: each node that it adds, and that has no message and no
-/// `ERROR` right under it, has in order the children that its kind's automaton accepts.
+/// `ERROR` right under it, has children that the shape of its kind spells, in order.
 pub fn every_rule_keeps_shapes()
     ensures shapes { RulesKeepShapes }
 {}
