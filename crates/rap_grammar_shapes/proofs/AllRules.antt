@@ -1,22 +1,20 @@
 -- Every rule brings what is claimed of it, and what a script appends has the children of its nodes' kinds.
-use Rattle.std.proofs.Common.{◌≡◌, ◌&&◌, ℕ, zero, suc, Bool, true, false, List, [], ◌∷◌, Some, if◌then◌else◌, refl, sym, subst, ap, ◌∙◌}
-use Rattle.rap_events.proofs.Truth.{and_left, and_right, or_left, or_right}
+use Rattle.std.proofs.Common.{◌≡◌, ℕ, zero, suc, Bool, true, false, List, [], ◌∷◌, Some, if◌then◌else◌, refl, sym, subst, ap, ◌∙◌}
+use Rattle.rap_events.proofs.Truth.{and_left, and_right}
 use Rattle.rap_events.specs.Forest.{Forest, none, node, leaf, message, split, ◌⧺◌}
-use Rattle.rap_events.specs.Machine.{Stack}
-use Rattle.rap_grammar_core.specs.StandsIn.{NodeAt, last_node, in_last_node, before_node, before_leaf, before_message, before_split}
+use Rattle.rap_grammar_core.specs.StandsIn.{last_node, in_last_node, before_node, before_leaf, before_message, before_split}
 use Rattle.rap_grammar_scripts.specs.Exec.{exec, run_of}
 use Rattle.rap_grammar_scripts.specs.Knot.{script_of}
 use Rattle.rap_grammar_scripts.specs.Script.{Script, Outcome}
 use Rattle.rap_grammar_scripts.specs.Stand.{Stand}
 use Rattle.rap_grammar_scripts.specs.Tally.{same_outcome}
-use Rattle.rap_grammar_scripts.specs.declared.arguments.Restrictions.{Restrictions}
 use Rattle.rap_grammar_scripts.specs.declared.arguments.Semicolon.{Semicolon}
 use Rattle.rap_grammar_scripts.specs.declared.arguments.Semicolon.TheVariants as semicolon
 use Rattle.rap_grammar_scripts.specs.declared.rule.Rule.{Rule}
 use Rattle.rap_grammar_scripts.specs.declared.rule.Rule.TheVariants as knot
 use Rattle.rap_grammar_scripts.proofs.Exec.{no_end}
 use Rattle.rap_grammar_scripts.proofs.Tally.{same_is}
-use Rattle.rap_grammar_table.specs.Known.{among, every_one}
+use Rattle.rap_grammar_table.specs.Known.{among}
 use Rattle.rap_grammar_table.specs.Shapes.{Child, children_of}
 use Rattle.rap_grammar_table.proofs.Known.{by_or, every_so}
 use Rattle.rap_grammar_table.proofs.Shaped.{OfChildren, AllSo, all_so-⧺, found}
@@ -26,8 +24,8 @@ use Rattle.rap_grammar_shapes.specs.Shapes.{shape_of}
 use Rattle.rap_grammar_shapes.specs.Whole.{IsWhole}
 use Rattle.rap_grammar_shapes.proofs.Along.{spelled}
 use Rattle.rap_grammar_shapes.proofs.Claims.{brings}
-use Rattle.rap_grammar_shapes.proofs.Content.{Content, nothing, leaf_of, any_leaf, node_of, a_float, spoilt, ◌⋅◌, ◌or◌, any_of, Holds, no_child, a_leaf, a_node, not_whole, by_first, by_second, choose}
-use Rattle.rap_grammar_shapes.proofs.Ends.{Contents, astray, contents, Ends, ends, has_leaves, has_nodes, has_spoilt, within, end_among, all_among, brings_all}
+use Rattle.rap_grammar_shapes.proofs.Content.{Content, nothing, leaf_of, node_of, spoilt, ◌or◌, Holds, no_child, a_leaf, a_node, by_first, by_second}
+use Rattle.rap_grammar_shapes.proofs.Ends.{Contents, astray, contents, Ends, ends, has_leaves, has_nodes, has_spoilt, within, end_among, all_among}
 use Rattle.rap_grammar_shapes.proofs.ExprRules.{expr_keeps_no_structs_first, expr_keeps_no_structs, expr_keeps_structs_first, expr_keeps_structs}
 use Rattle.rap_grammar_shapes.proofs.GenericRules.{generic_arg_keeps, generic_param_list_keeps, bounds_keep, where_clause_keeps}
 use Rattle.rap_grammar_shapes.proofs.ItemRules.{item_keeps}
@@ -35,7 +33,7 @@ use Rattle.rap_grammar_shapes.proofs.Keeps.{Among, this_one, later_one, Brought,
 use Rattle.rap_grammar_shapes.proofs.Known.{is_known, all_known, knows, may_stand, all_stand, stands_under}
 use Rattle.rap_grammar_shapes.proofs.Models.{model}
 use Rattle.rap_grammar_shapes.proofs.PatternRules.{pattern_keeps, pattern_single_keeps, arm_pattern_keeps}
-use Rattle.rap_grammar_shapes.proofs.Runs.{runs, runs_so}
+use Rattle.rap_grammar_shapes.proofs.Runs.{runs_so}
 use Rattle.rap_grammar_shapes.proofs.Small.{Keeps, token_tree_keeps, cfg_predicate_keeps, meta_keeps, use_tree_keeps, if_expr_keeps}
 use Rattle.rap_grammar_shapes.proofs.StmtRules.{stmt_required_keeps, stmt_optional_keeps, stmt_forbidden_keeps}
 use Rattle.rap_grammar_shapes.proofs.Trees.{Claimed, Part, Is}

@@ -1,7 +1,7 @@
 -- Automata over the children of a node, by their kinds.
 use Rattle.std.specs.Prelude.{◌≡◌, ◌==◌, ◌&&◌, ◌||◌, ℕ, zero, suc, Bool, true, false, List, [], ◌∷◌}
 use Rattle.rap_grammar_table.specs.Known.{among}
-use Rattle.rap_grammar_table.specs.Shapes.{Child, leaf_child, node_child, message_child, float_child}
+use Rattle.rap_grammar_table.specs.Shapes.{Child, leaf_child, node_child, float_child}
 
 -- A step to a state: by a leaf or a node of one of these kinds, by any leaf, or by a float that is taken apart.
 pub data Step : Type 0 where

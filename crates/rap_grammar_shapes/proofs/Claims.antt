@@ -1,5 +1,5 @@
 -- What each recursive rule appends.
-use Rattle.std.specs.Prelude.{ℕ, List, [], ◌∷◌}
+use Rattle.std.specs.Prelude.{List, [], ◌∷◌}
 use Rattle.rap_base.specs.NodeKind.{ASSOC_TYPE_ARG, CFG_ATOM, CFG_COMPOSITE, CONST_ARG, DYN_TRAIT_TYPE, GENERIC_PARAM_LIST, IF_EXPR, LIFETIME_ARG, PATH_TYPE, TOKEN_TREE, TYPE_ARG, TYPE_BOUND_LIST, USE_TREE, WHERE_CLAUSE}
 use Rattle.rap_base.specs.TokenKind.{SEMICOLON}
 use Rattle.rap_grammar_scripts.specs.Script.{Outcome, nothing as none_left, something, block}

@@ -1,13 +1,11 @@
 -- What holds of contents that are put together.
-use Rattle.std.proofs.Common.{◌≡◌, ◌==◌, ◌&&◌, ◌||◌, ℕ, Bool, true, false, List, [], ◌∷◌, ◌++◌, append_assoc, append-nil, ◌∙◌, Option, Some, None, refl, sym, subst, ap}
+use Rattle.std.proofs.Common.{◌≡◌, ◌==◌, ◌&&◌, ℕ, Bool, true, false, List, [], ◌∷◌, ◌++◌, append_assoc, append-nil, refl, sym, subst, ap}
 use Rattle.rap_events.proofs.Truth.{and_left, and_right, or_left, or_right}
-use Rattle.rap_events.specs.Forest.{Forest, none, node, leaf, message, split}
 use Rattle.rap_grammar_table.specs.Known.{among}
-use Rattle.rap_grammar_table.specs.Shapes.{Child, leaf_child, node_child, message_child, float_child, children_of}
+use Rattle.rap_grammar_table.specs.Shapes.{Child}
 use Rattle.rap_grammar_table.proofs.Known.{by_or, same_number}
-use Rattle.rap_grammar_table.proofs.Spells.{same_last}
 use Rattle.rap_grammar_shapes.specs.Whole.{is_sound, are_sound, IsWhole}
-use Rattle.rap_grammar_shapes.proofs.Content.{Content, nothing, leaf_of, any_leaf, node_of, a_float, spoilt, ◌⋅◌, ◌or◌, any_of, Holds, no_child, a_leaf, some_leaf, a_node, the_float, not_whole, in_order, by_first, by_second, no_more, one_more, choose, equal_kinds, equal, added, united, is_way, begins, continued, put_sequence, put_leaves, put_nodes, or_nothing, either_of, spoils, append, onto, both_kinds, last_nodes, before, many}
+use Rattle.rap_grammar_shapes.proofs.Content.{Content, nothing, leaf_of, any_leaf, node_of, a_float, spoilt, ◌⋅◌, ◌or◌, any_of, Holds, no_child, a_leaf, a_node, not_whole, in_order, by_first, by_second, no_more, one_more, choose, equal_kinds, equal, added, united, is_way, begins, continued, put_sequence, put_leaves, put_nodes, or_nothing, either_of, spoils, append, onto, many}
 
 -- what is so of the one that is chosen
 pub by_choice : {A : Type 0} (P : A → Type 0) (t : Bool) (a b : A) → (t ≡ true → P a) → (t ≡ false → P b) →

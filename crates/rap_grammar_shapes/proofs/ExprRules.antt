@@ -1,9 +1,8 @@
 -- Expressions keep to what they bring, under all restrictions and at any power.
-use Rattle.std.proofs.Common.{◌≡◌, ℕ, Bool, true, false, refl}
+use Rattle.std.proofs.Common.{ℕ, true, false, refl}
 use Rattle.rap_grammar_scripts.specs.declared.rule.Rule.TheVariants as knot
 use Rattle.rap_grammar_scripts.proofs.Scripts.{scripts}
 use Rattle.rap_grammar_shapes.proofs.Small.{Keeps}
-use Rattle.rap_grammar_scripts.specs.declared.arguments.Restrictions.{Restrictions}
 
 pub expr_keeps_no_structs_first : (bp : ℕ) → Keeps (knot.ExprBp (record { forbid_structs = true; prefer_stmt = true }) bp)
 unfolding scripts

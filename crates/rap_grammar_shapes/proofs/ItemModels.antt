@@ -1,10 +1,10 @@
 -- Written by crates/rap_grammar_shapes/models from specs/Shapes.antt: an edit here is lost.
 -- The automata of items and of what they are made of, by their shapes.
 -- State 0 of each is its shape, and the others are what is left of it after some children.
-use Rattle.std.specs.Prelude.{ℕ, Bool, true, false, List, [], ◌∷◌}
+use Rattle.std.specs.Prelude.{ℕ, true, false, List, [], ◌∷◌}
 use Rattle.rap_base.specs.NodeKind.{ABI, ASSOC_ITEM_LIST, BLOCK_EXPR, CONST_ARG, EXTERN_ITEM_LIST, GENERIC_PARAM_LIST, IMPL_RESTRICTION, ITEM_LIST, LIFETIME, MUT_RESTRICTION, NAME, NAME_REF, OR_PAT, PARAM, PARAM_LIST, PATH, RECORD_FIELD, RECORD_FIELD_LIST, RENAME, RET_TYPE, SELF_PARAM, TOKEN_TREE, TUPLE_FIELD, TUPLE_FIELD_LIST, TYPE_BOUND_LIST, USE_TREE, USE_TREE_LIST, VARIANT, VARIANT_LIST, VISIBILITY, VISIBILITY_INNER, WHERE_CLAUSE}
 use Rattle.rap_base.specs.TokenKind.{AMP, ASYNC_KW, AUTO_KW, BANG, COLON, COLON2, COMMA, CONST_KW, CRATE_KW, DEFAULT_KW, DOT3, ENUM_KW, EQ, EXTERN_KW, FN_KW, FOR_KW, GEN_KW, IMPL_KW, IN_KW, L_CURLY, L_PAREN, MACRO_KW, MACRO_RULES_KW, MOD_KW, MUT_KW, PIPE, PUB_KW, R_BRACK, R_CURLY, R_PAREN, SAFE_KW, SEMICOLON, STAR, STATIC_KW, STRING, STRUCT_KW, THIN_ARROW, TRAIT_KW, TYPE_KW, UNDERSCORE, UNION_KW, UNSAFE_KW, USE_KW}
-use Rattle.rap_grammar_shapes.specs.Automata.{State, Step, by_any, by_leaf, by_node, state}
+use Rattle.rap_grammar_shapes.proofs.Automata.{State, Step, by_any, by_leaf, by_node, state}
 use Rattle.rap_grammar_shapes.specs.Shapes.{attribute_kinds, expressions, items, single_patterns, types}
 
 -- a step by a leaf or a node of one kind

@@ -1,15 +1,13 @@
 -- What is computed of a script is so of where it ends.
-use Rattle.std.proofs.Common.{append_assoc, append-nil, ◌≡◌, ◌==◌, ◌&&◌, ◌||◌, ℕ, zero, suc, Bool, true, false, List, [], ◌∷◌, ◌++◌, length, Option, Some, None, if◌then◌else◌, ltb, refl, sym, ap, ◌∙◌, subst}
+use Rattle.std.proofs.Common.{append_assoc, append-nil, ◌≡◌, ◌==◌, ℕ, zero, suc, Bool, true, false, List, [], ◌∷◌, ◌++◌, length, Some, None, if◌then◌else◌, ltb, refl, sym, ap, ◌∙◌, subst}
 use Rattle.rap_base.specs.TokenKind.{EOF, FLOAT_NUMBER}
-use Rattle.rap_events.proofs.Truth.{and_left, and_right, and_both}
 use Rattle.rap_events.specs.Composite.{is_at, width}
 use Rattle.rap_events.specs.Cover.{first_may_bear}
 use Rattle.rap_events.specs.Forest.{Forest, none, ◌⧺◌}
 use Rattle.rap_events.specs.Machine.{Stack}
 use Rattle.rap_events.specs.Record.{next_kind, joint_at}
 use Rattle.rap_events.specs.State.{with_kind}
-use Rattle.rap_grammar_scripts.specs.Exec.{End, exec, run_of, turning, looped}
-use Rattle.rap_grammar_scripts.specs.Knot.{script_of}
+use Rattle.rap_grammar_scripts.specs.Exec.{exec, run_of, turning, looped}
 use Rattle.rap_grammar_scripts.specs.Script.{Script, Outcome, nothing as none_left, something, block, again, goes_on, give, test, ends_with, token, any, bear, report, report_next, skip, start, precede, finish, extend, abandon, split_float, after as and_then, rule, loop, last_taken_at}
 use Rattle.rap_grammar_scripts.specs.Stand.{Stand, taken, reported, skipped_over, started, preceded, finished, extended, abandoned, split_apart, spot_at}
 use Rattle.rap_grammar_scripts.specs.Tally.{same_outcome}
@@ -18,16 +16,14 @@ use Rattle.rap_grammar_scripts.specs.declared.rule.Rule.{Rule}
 use Rattle.rap_grammar_scripts.proofs.Exec.{no_end, by_test, by_end, by_again, spot_of, outcome_of}
 use Rattle.rap_grammar_scripts.proofs.Forests.{⧺-assoc}
 use Rattle.rap_grammar_scripts.proofs.Tally.{same_is}
-use Rattle.rap_grammar_table.specs.Known.{among, every_one}
 use Rattle.rap_grammar_table.specs.Shapes.{Child, children_of}
-use Rattle.rap_grammar_table.proofs.Known.{by_or, every_so}
-use Rattle.rap_grammar_table.proofs.Shaped.{AllSo, all_so-⧺}
+use Rattle.rap_grammar_table.proofs.Shaped.{all_so-⧺}
 use Rattle.rap_grammar_table.proofs.Spells.{children-⧺}
 use Rattle.rap_grammar_shapes.proofs.Claims.{brings}
-use Rattle.rap_grammar_shapes.proofs.Content.{Content, nothing, leaf_of, any_leaf, node_of, a_float, spoilt, ◌⋅◌, ◌or◌, any_of, Holds, no_child, a_leaf, some_leaf, a_node, the_float, not_whole, in_order, by_first, by_second, no_more, one_more, choose, equal, either_of, many}
+use Rattle.rap_grammar_shapes.proofs.Content.{Content, nothing, leaf_of, any_leaf, node_of, a_float, spoilt, ◌⋅◌, ◌or◌, any_of, Holds, no_child, no_more, one_more, choose, equal, either_of, many}
 use Rattle.rap_grammar_shapes.proofs.ContentLaws.{by_choice, by_chosen, equal_so, holds_first, holds_second, holds_many}
-use Rattle.rap_grammar_shapes.proofs.Ends.{Contents, astray, contents, by_kinds, by_content, by_newest, by_contents, equal_older, equal_contents, with_more, opened, closed, with_last, drawn, parted, given_up, either, Ends, put, pool, gather, rule_ends, Turn, no_turn, a_turn, lost, turn_of, turn_by, turn_in, repeated, behind, last_by, lasts, any_flags, goes_by, goes_in, done_in, rounds, by_turn, loop_ends, ends, has_leaves, has_nodes, has_spoilt, within, end_among, all_among, brings_all}
-use Rattle.rap_grammar_shapes.proofs.Trees.{Claimed, Part, Stands, Is, is_leaf, is_any, is_reported, is_skipped, is_opened, is_closed, is_given_up, is_behind, is_preceded, is_drawn, is_parted, equal_older_so, wider, is_left, is_right}
+use Rattle.rap_grammar_shapes.proofs.Ends.{Contents, astray, contents, by_kinds, by_content, by_newest, by_contents, equal_older, equal_contents, with_more, opened, closed, with_last, drawn, parted, given_up, either, Ends, put, pool, gather, rule_ends, Turn, no_turn, a_turn, lost, turn_of, turn_by, turn_in, repeated, behind, last_by, lasts, any_flags, goes_by, goes_in, done_in, rounds, by_turn, ends}
+use Rattle.rap_grammar_shapes.proofs.Trees.{Claimed, Part, Is, is_leaf, is_any, is_reported, is_skipped, is_opened, is_closed, is_given_up, is_behind, is_preceded, is_drawn, is_parted, equal_older_so, is_left, is_right}
 
 -- What is computed of contents that are computed first is the same.
 kinds_same : {A : Type 0} (ks : List ℕ) (h : List ℕ → A) → by_kinds ks h ≡ h ks

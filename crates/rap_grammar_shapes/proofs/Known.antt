@@ -1,5 +1,5 @@
 -- Whether it is known what a script appends, and whether that may stand under a node of a kind.
-use Rattle.std.specs.Prelude.{◌&&◌, ℕ, Bool, true, false, List, [], ◌∷◌}
+use Rattle.std.specs.Prelude.{◌&&◌, ℕ, Bool, true, false, [], ◌∷◌}
 use Rattle.rap_grammar_scripts.specs.Script.{Script}
 use Rattle.rap_grammar_scripts.specs.declared.rule.Rule.{Rule}
 use Rattle.rap_grammar_shapes.proofs.Models.{model}

@@ -1,11 +1,11 @@
 -- The states of an automaton to which the children of a content may lead, as sets.
-use Rattle.std.proofs.Common.{◌≡◌, ◌==◌, ◌&&◌, ◌||◌, ℕ, zero, suc, Bool, true, false, List, [], ◌∷◌, ◌++◌, append_assoc, append-nil, Option, Some, None, refl, sym, subst, ap, ◌∙◌}
-use Rattle.rap_events.proofs.Truth.{and_left, and_right, and_both, or_left, or_right}
+use Rattle.std.proofs.Common.{◌≡◌, ◌==◌, ℕ, zero, suc, Bool, true, false, List, [], ◌∷◌, ◌++◌, append_assoc, append-nil, Option, Some, None, refl, sym, subst, ◌∙◌}
+use Rattle.rap_events.proofs.Truth.{and_both, or_left, or_right}
 use Rattle.rap_grammar_table.specs.Known.{among, every_one}
-use Rattle.rap_grammar_table.specs.Shapes.{Child, leaf_child, node_child, message_child, float_child}
+use Rattle.rap_grammar_table.specs.Shapes.{Child, leaf_child, node_child, float_child}
 use Rattle.rap_grammar_table.proofs.Known.{by_or, every_so, same_number}
 use Rattle.rap_grammar_table.proofs.Look.{same_self}
-use Rattle.rap_grammar_shapes.proofs.Automata.{Step, by_leaf, by_node, by_any, by_float, State, state, state_at, accepts, steps_of, step_leads, leads, Accepts, at_end, by_step}
+use Rattle.rap_grammar_shapes.proofs.Automata.{Step, by_leaf, by_node, by_any, by_float, State, state_at, accepts, steps_of, step_leads, leads, Accepts, at_end, by_step}
 use Rattle.rap_grammar_shapes.specs.Whole.{are_sound, IsWhole}
 use Rattle.rap_grammar_shapes.proofs.Content.{Content, nothing, leaf_of, any_leaf, node_of, a_float, spoilt, ◌⋅◌, ◌or◌, any_of, Holds, no_child, a_leaf, some_leaf, a_node, the_float, not_whole, in_order, by_first, by_second, no_more, one_more, choose, equal_kinds, added, united}
 use Rattle.rap_grammar_shapes.proofs.ContentLaws.{equal_kinds_so, united_left, united_right, whole_left, whole_right}

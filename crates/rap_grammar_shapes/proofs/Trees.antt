@@ -1,5 +1,5 @@
 -- What stands in the forests of a run, by contents, and that each word keeps it.
-use Rattle.std.proofs.Common.{append_assoc, append-nil, ◌≡◌, ◌==◌, ◌&&◌, ℕ, Bool, true, false, not, List, [], ◌∷◌, ◌++◌, Option, Some, None, refl, sym, ap, ◌∙◌, subst}
+use Rattle.std.proofs.Common.{append_assoc, ◌≡◌, ◌==◌, ◌&&◌, ℕ, Bool, true, false, not, List, [], ◌∷◌, ◌++◌, Option, Some, None, refl, sym, ap, ◌∙◌, subst}
 use Rattle.rap_base.specs.NodeKind.{FIELD_EXPR}
 use Rattle.rap_base.specs.TokenKind.{ERROR}
 use Rattle.rap_events.proofs.Truth.{or_left}
@@ -9,18 +9,18 @@ use Rattle.rap_events.specs.Machine.{Stack, floor, push}
 use Rattle.rap_events.specs.Record.{Record}
 use Rattle.rap_events.specs.State.{but_last, last_children, skipped}
 use Rattle.rap_grammar_scripts.specs.Script.{last_kind}
-use Rattle.rap_grammar_scripts.specs.Stand.{Stand, taken, reported, skipped_over, started, preceded, finished, extended, abandoned, split_apart, forest_below, far_below}
+use Rattle.rap_grammar_scripts.specs.Stand.{Stand, reported, skipped_over, started, preceded, finished, extended, abandoned, split_apart, forest_below, far_below}
 use Rattle.rap_grammar_scripts.proofs.Forests.{⧺-assoc}
 use Rattle.rap_grammar_table.specs.Known.{among, every_one}
-use Rattle.rap_grammar_table.specs.Shapes.{Child, leaf_child, node_child, message_child, float_child, children_of}
+use Rattle.rap_grammar_table.specs.Shapes.{Child, node_child, float_child, children_of}
 use Rattle.rap_grammar_table.proofs.Known.{every_so}
 use Rattle.rap_grammar_table.proofs.Look.{same_self}
 use Rattle.rap_grammar_table.proofs.Shaped.{OfChildren, AllSo, all_so-⧺}
 use Rattle.rap_grammar_table.proofs.Spells.{children-⧺, same_last}
 use Rattle.rap_grammar_shapes.proofs.Automata.{Accepts}
-use Rattle.rap_grammar_shapes.specs.Whole.{are_sound, IsWhole}
-use Rattle.rap_grammar_shapes.proofs.Content.{Content, nothing, leaf_of, any_leaf, node_of, a_float, spoilt, ◌⋅◌, ◌or◌, any_of, Holds, no_child, a_leaf, some_leaf, a_node, the_float, not_whole, in_order, by_first, by_second, no_more, one_more, choose, equal, equal_kinds, united, either_of, onto, both_kinds, last_nodes, before}
-use Rattle.rap_grammar_shapes.proofs.ContentLaws.{by_choice, by_chosen, equal_so, equal_kinds_so, united_left, united_right, holds_first, holds_second, holds_onto, whole_left, whole_right, right_spoils}
+use Rattle.rap_grammar_shapes.specs.Whole.{IsWhole}
+use Rattle.rap_grammar_shapes.proofs.Content.{Content, nothing, leaf_of, any_leaf, node_of, a_float, spoilt, ◌⋅◌, ◌or◌, any_of, Holds, no_child, a_leaf, some_leaf, a_node, the_float, not_whole, in_order, by_first, by_second, choose, equal, equal_kinds, united, either_of, onto, both_kinds, last_nodes, before}
+use Rattle.rap_grammar_shapes.proofs.ContentLaws.{by_choice, by_chosen, equal_so, equal_kinds_so, united_left, united_right, holds_first, holds_second, holds_onto, whole_left, whole_right}
 use Rattle.rap_grammar_shapes.proofs.Ends.{Contents, astray, contents, equal_older, with_more, opened, node_content, closed_if, closed, preceded_if, with_last, extended_by, extended_if, drawn, float_runs, parted, given_up, joined_if, either}
 use Rattle.rap_grammar_shapes.proofs.Models.{model}
 use Rattle.rap_grammar_shapes.proofs.Runs.{runs, runs_so, comes_back, back_so}

@@ -1,5 +1,5 @@
 -- Which children the nodes of a forest have.
-use Rattle.std.specs.Prelude.{◌≡◌, ℕ, true, false, List, [], ◌∷◌, Option, Some}
+use Rattle.std.specs.Prelude.{◌≡◌, ℕ, true, false, List, [], ◌∷◌, Some}
 use Rattle.rap_base.specs.NodeKind.{SOURCE_FILE, MACRO_ITEMS, MACRO_STMTS}
 use Rattle.rap_events.specs.Forest.{Forest, none, node}
 use Rattle.rap_grammar_core.specs.StandsIn.{NodeAt}
