@@ -15,11 +15,10 @@ use Rattle.rap_grammar_scripts.specs.declared.rule.Rule.TheVariants as knot
 use Rattle.rap_grammar_scripts.proofs.Exec.{no_end}
 use Rattle.rap_grammar_scripts.proofs.Tally.{same_is}
 use Rattle.rap_grammar_table.specs.Known.{among}
-use Rattle.rap_grammar_table.specs.Shapes.{Child, children_of}
+use Rattle.rap_grammar_table.specs.Shapes.{Child, children_of, Spells}
 use Rattle.rap_grammar_table.proofs.Known.{by_or, every_so}
 use Rattle.rap_grammar_table.proofs.Shaped.{OfChildren, AllSo, all_so-⧺, found}
 use Rattle.rap_grammar_shapes.specs.HaveShapes.{HaveShapes, RulesKeepShapes}
-use Rattle.rap_grammar_shapes.specs.Shape.{Spells}
 use Rattle.rap_grammar_shapes.specs.Shapes.{shape_of}
 use Rattle.rap_grammar_shapes.specs.Whole.{IsWhole}
 use Rattle.rap_grammar_shapes.proofs.Along.{spelled}

@@ -3,8 +3,8 @@ use Rattle.std.proofs.Common.{◌≡◌, ◌==◌, ◌&&◌, ◌||◌, ℕ, zero
 use Rattle.rap_events.proofs.Truth.{and_left, and_right}
 use Rattle.rap_grammar_table.proofs.Known.{by_or, every_so, same_number}
 use Rattle.rap_grammar_table.specs.Known.{among, every_one}
-use Rattle.rap_grammar_table.specs.Shapes.{Child, leaf_child, node_child, message_child, float_child}
-use Rattle.rap_grammar_shapes.specs.Shape.{Shape, nothing, leaf_of, any_leaf, node_of, a_float, ◌⋅◌, ◌or◌, any_of, Spells, no_child, a_leaf, some_leaf, a_node, the_float, in_order, by_first, by_second, no_more, one_more}
+use Rattle.rap_grammar_table.proofs.ShapedRows.{same_shape_so}
+use Rattle.rap_grammar_table.specs.Shapes.{Child, leaf_child, node_child, message_child, float_child, same_shape, Shape, nothing, leaf_of, any_leaf, node_of, a_float, ◌⋅◌, ◌or◌, any_of, Spells, no_child, a_leaf, some_leaf, a_node, the_float, in_order, by_first, by_second, no_more, one_more}
 use Rattle.rap_grammar_shapes.proofs.Automata.{Step, by_leaf, by_node, by_any, by_float, State, state, state_at, accepts, steps_of, step_leads, leads, Accepts, at_end, by_step}
 use Rattle.rap_grammar_shapes.specs.Shapes.{shape_of}
 use Rattle.rap_grammar_shapes.proofs.Models.{models, model_in, model}
@@ -215,43 +215,6 @@ past_so s (any_of a) r c cs e m t =
     (λ x i j.
     let p = apart x (any_of a) cs (subst (λ (y : Shape). Spells y cs) (sym j) t) in
     rw p.whole (one_more (past_so s a x c p.front i m p.first) p.second))
-
--- shapes that are the same
-abbrev pub same_kinds : List ℕ → List ℕ → Bool
-same_kinds [] [] = true
-same_kinds (k ∷ ks) (j ∷ js) = (k == j) && same_kinds ks js
-same_kinds ks js = false
-
-abbrev pub same_shape : Shape → Shape → Bool
-same_shape nothing nothing = true
-same_shape (leaf_of ks) (leaf_of js) = same_kinds ks js
-same_shape any_leaf any_leaf = true
-same_shape (node_of ks) (node_of js) = same_kinds ks js
-same_shape a_float a_float = true
-same_shape (a ⋅ b) (x ⋅ y) = same_shape a x && same_shape b y
-same_shape (a or b) (x or y) = same_shape a x && same_shape b y
-same_shape (any_of a) (any_of x) = same_shape a x
-same_shape a b = false
-
-same_kinds_is : (ks js : List ℕ) → same_kinds ks js ≡ true → ks ≡ js
-same_kinds_is [] [] h = refl
-same_kinds_is [] (j ∷ js) h = absurd cc
-same_kinds_is (k ∷ ks) [] h = absurd cc
-same_kinds_is (k ∷ ks) (j ∷ js) h =
-    rw (same_number k j (and_left (k == j) _ h), same_kinds_is ks js (and_right (k == j) _ h)) refl
-
-same_shape_so : (a b : Shape) → same_shape a b ≡ true → a ≡ b
-same_shape_so nothing nothing h = refl
-same_shape_so (leaf_of ks) (leaf_of js) h = ap (λ (x : List ℕ). leaf_of x) (same_kinds_is ks js h)
-same_shape_so any_leaf any_leaf h = refl
-same_shape_so a_float a_float h = refl
-same_shape_so (node_of ks) (node_of js) h = ap (λ (x : List ℕ). node_of x) (same_kinds_is ks js h)
-same_shape_so (a ⋅ b) (x ⋅ y) h =
-    rw (same_shape_so a x (and_left (same_shape a x) _ h), same_shape_so b y (and_right (same_shape a x) _ h)) refl
-same_shape_so (a or b) (x or y) h =
-    rw (same_shape_so a x (and_left (same_shape a x) _ h), same_shape_so b y (and_right (same_shape a x) _ h)) refl
-same_shape_so (any_of a) (any_of x) h = ap (λ (y : Shape). any_of y) (same_shape_so a x h)
-same_shape_so a b h = absurd cc
 
 -- The shapes of the states, rest they are met: a state that is met first is put behind those before it.
 abbrev pub on : {A B : Type 0} → Option A → B → (A → B) → B

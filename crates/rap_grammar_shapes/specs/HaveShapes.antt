@@ -22,8 +22,7 @@ use Rattle.rap_grammar_scripts.specs.UseItem.{use_tree_list}
 use Rattle.rap_grammar_scripts.specs.Visibility.{opt_visibility}
 use Rattle.rap_grammar_scripts.specs.declared.arguments.Semicolon.TheVariants as semicolon
 use Rattle.rap_grammar_scripts.specs.declared.rule.Rule.{Rule}
-use Rattle.rap_grammar_table.specs.Shapes.{children_of}
-use Rattle.rap_grammar_shapes.specs.Shape.{Spells}
+use Rattle.rap_grammar_table.specs.Shapes.{children_of, Spells}
 use Rattle.rap_grammar_shapes.specs.Shapes.{shape_of}
 use Rattle.rap_grammar_shapes.specs.Whole.{IsWhole}
 

@@ -8,7 +8,7 @@ use Rattle.rap_events.specs.Power.{power}
 use Rattle.rap_grammar_table.specs.Counts.{AreBetween, IsAtMost, fewest, larger_of, most, nodes_of, one_if, repeated, sum_of}
 use Rattle.rap_grammar_table.specs.Known.{among, every_one}
 use Rattle.rap_grammar_table.specs.Shaped.{ChildrenAre, EndsInBody, HaveCounts, HaveOneName, IsBinary, expr_kinds, fn_shape, named_kinds}
-use Rattle.rap_grammar_table.specs.Shapes.{Child, leaf_child, node_child, message_child, float_child, children_of, Shape, leaf_of, node_of, ◌⋅◌, ◌or◌, shape, Spells, no_child, a_leaf, a_node, in_order, by_first, by_second, no_more, one_more}
+use Rattle.rap_grammar_table.specs.Shapes.{Child, leaf_child, node_child, message_child, float_child, children_of, Shape, leaf_of, node_of, ◌⋅◌, ◌or◌, shape, Spells, no_child, a_leaf, some_leaf, a_node, the_float, in_order, by_first, by_second, no_more, one_more}
 use Rattle.rap_grammar_table.proofs.Known.{by_or, every_so, same_number}
 use Rattle.rap_grammar_table.proofs.ShapedTrees.{have_shapes}
 
@@ -59,6 +59,8 @@ most_one false false h = omega arith
 pub counted : (k : ℕ) {s : Shape} {cs : List Child} → Spells s cs → AreBetween k s cs
 counted k no_child = record { at_least = omega arith; at_most = omega arith }
 counted k (a_leaf m) = record { at_least = omega arith; at_most = omega arith }
+counted k some_leaf = record { at_least = omega arith; at_most = omega arith }
+counted k the_float = record { at_least = omega arith; at_most = omega arith }
 counted k (a_node {kinds = ks} {kind = j} m) =
     record {
       at_least = least_one (every_one (λ i. i == k) ks) (j == k) (λ h. every_so (λ i. i == k) ks j h m);

@@ -10,7 +10,7 @@ use Rattle.rap_grammar_table.proofs.IncludedItems as items
 use Rattle.rap_grammar_table.proofs.IncludedItems.{FieldsSo, ItemsSo, ParamSo, ReturnSo, TupleFieldSo, TupleSo}
 use Rattle.rap_grammar_table.proofs.IncludedLists.{Optional, missing, there, AnyNumber, no_more, and_more, WithCommas, last_one, comma_behind, comma_and, any_number}
 use Rattle.rap_grammar_table.proofs.IncludedOperands as operands
-use Rattle.rap_grammar_table.proofs.IncludedOperands.{AtomSo, PostfixSo, PostfixOf, by_atom, by_block, UnarySo}
+use Rattle.rap_grammar_table.proofs.IncludedOperands.{AtomSo, PostfixOf, by_atom, by_block, UnarySo}
 use Rattle.rap_grammar_table.proofs.IncludedOperators.{Written}
 use Rattle.rap_grammar_table.proofs.IncludedStatements as statements
 use Rattle.rap_grammar_table.proofs.IncludedStatements.{AnnotationSo, BlockSo, ContentsSo, ElseSo, IfSo, ValueSo, WithBlockSo}

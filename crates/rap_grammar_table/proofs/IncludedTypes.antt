@@ -4,10 +4,10 @@ use Rattle.rap_base.specs.NodeKind.{PATH, PATH_SEGMENT, PATH_TYPE, NAME_REF, REF
 use Rattle.rap_base.specs.TokenKind.{IDENT, AMP, MUT_KW, L_BRACK, R_BRACK, COLON2}
 use Rattle.rap_events.specs.Forest.{Forest, none, node, leaf, ◌⧺◌}
 use Rattle.rap_events.specs.Record.{Record}
-use Rattle.rap_grammar_core.specs.Derives.{Is, IsName, Writes, path_one, path_more, segment, reference}
+use Rattle.rap_grammar_core.specs.Derives.{Is, IsName, path_one, path_more, segment, reference}
 use Rattle.rap_grammar_core.specs.Derives as old
 use Rattle.rap_grammar_table.proofs.IncludedRows.{Row, Folded, none_yet, one_more, rolled, done, opens, closes, one_way, other_way, no_group, folds_alone, makes, puts, puts_last, puts_alone, puts_token, puts_name, puts_operator}
-use Rattle.rap_grammar_table.specs.Categories.{Args, Argument, PlainTy, lifetime, path_names}
+use Rattle.rap_grammar_table.specs.Categories.{PlainTy, lifetime, path_names}
 use Rattle.rap_grammar_table.specs.Categories as categories
 use Rattle.rap_grammar_table.specs.Notation.{◌⊳◌, t, c, node as under, opt, name_words, row}
 use Rattle.rap_grammar_table.specs.Table.{Items, nil, begin, close, piece, choice, group, folds, way, first_turn, tok, comp}

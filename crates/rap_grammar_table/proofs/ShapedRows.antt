@@ -4,7 +4,7 @@ use Rattle.rap_events.proofs.Truth.{and_left, and_right, or_left}
 use Rattle.rap_events.specs.Forest.{Forest, none, node, ◌⧺◌}
 use Rattle.rap_grammar_scripts.proofs.Forests.{⧺-assoc}
 use Rattle.rap_grammar_table.specs.Notation.{Entry, entry_at}
-use Rattle.rap_grammar_table.specs.Shapes.{Child, node_child, children_of, Shape, nothing, leaf_of, node_of, ◌⋅◌, ◌or◌, any_of, Spells, no_child, a_node, by_first, by_second, either_of, after, turns, last_of, with_last, piece_shape, ends, nodes_in, nodes_by, nodes_each, same_shape, is_in, unless_in, with_shape, shapes_among, any_shape}
+use Rattle.rap_grammar_table.specs.Shapes.{Child, node_child, children_of, Shape, nothing, leaf_of, any_leaf, node_of, a_float, ◌⋅◌, ◌or◌, any_of, Spells, no_child, a_node, by_first, by_second, either_of, after, turns, last_of, with_last, piece_shape, ends, nodes_in, nodes_by, nodes_each, same_shape, is_in, unless_in, with_shape, shapes_among, any_shape}
 use Rattle.rap_grammar_table.specs.Table.{Items, nil, begin, close, piece, choice, repeat, turns_of, group, folds, folding, way, unless, appended, HasWay, first_turn, other_turn, row_at}
 use Rattle.rap_grammar_table.proofs.Known.{by_or}
 use Rattle.rap_grammar_table.proofs.Look.{same_self}
@@ -275,9 +275,11 @@ spells_any (s ∷ []) (inr t) = absurd t
 spells_any (s ∷ r ∷ ss) (inl t) = by_first t
 spells_any (s ∷ r ∷ ss) (inr t) = by_second (spells_any (r ∷ ss) t)
 
-same_shape_so : (a b : Shape) → same_shape a b ≡ true → a ≡ b
+pub same_shape_so : (a b : Shape) → same_shape a b ≡ true → a ≡ b
 same_shape_so nothing nothing h = refl
 same_shape_so (leaf_of ks) (leaf_of js) h = ap (λ (x : List ℕ). leaf_of x) (same_kinds_so ks js h)
+same_shape_so any_leaf any_leaf h = refl
+same_shape_so a_float a_float h = refl
 same_shape_so (node_of ks) (node_of js) h = ap (λ (x : List ℕ). node_of x) (same_kinds_so ks js h)
 same_shape_so (a ⋅ b) (x ⋅ y) h =
     rw (same_shape_so a x (and_left (same_shape a x) _ h), same_shape_so b y (and_right (same_shape a x) _ h)) refl

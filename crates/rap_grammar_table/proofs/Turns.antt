@@ -11,7 +11,7 @@ use Rattle.rap_grammar_table.specs.Built.{Built, over, tree, under, same, last_s
 use Rattle.rap_grammar_table.specs.Good.{IsNode, Made, made_last, made_turn, made_repeat, made_folded_none, made_folded_more, made_folds}
 use Rattle.rap_grammar_table.specs.Known.{Place, Sees}
 use Rattle.rap_grammar_table.specs.Look.{look, after_way, anything}
-use Rattle.rap_grammar_table.specs.Refusal.{Refusal, ends_as, goes_on_as, in_turn, after_turns, in_part, stopped, Verdict, accepted, refused, both, check, provided, or_else_so, told_with, or_later}
+use Rattle.rap_grammar_table.specs.Refusal.{goes_on_as, in_turn, after_turns, stopped, Verdict, accepted, both, check, told_with, or_later}
 use Rattle.rap_grammar_table.specs.Refusal as refusal
 use Rattle.rap_grammar_table.specs.Table.{Table, Items, repeat, turns_of, folds, folding, HasWay, first_turn, other_turn}
 use Rattle.rap_grammar_table.specs.Walk.{next_turn, is_repeat, at_repeat, Turn, one_turn, turns_first, turning, most_turns, Flags, flags_in, every_flags, goes_on_in, turn_ends, turn_so, no_turns, first_so, guesses, fold_turn_so, ways_so, then_ends, last_so, goes_on_after, folds_so, repeating}

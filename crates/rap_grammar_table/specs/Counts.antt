@@ -1,7 +1,7 @@
 -- How many nodes of a kind stand among children, and how many at least and at most where the children are of a shape.
 use Rattle.std.specs.Prelude.{◌==◌, ◌+◌, ◌≤◌, ℕ, zero, suc, min, max, Bool, true, false, List, [], ◌∷◌, Option, Some, None}
 use Rattle.rap_grammar_table.specs.Known.{among, every_one}
-use Rattle.rap_grammar_table.specs.Shapes.{Child, leaf_child, node_child, message_child, float_child, Shape, nothing, leaf_of, node_of, ◌⋅◌, ◌or◌, any_of}
+use Rattle.rap_grammar_table.specs.Shapes.{Child, leaf_child, node_child, message_child, float_child, Shape, nothing, leaf_of, any_leaf, node_of, a_float, ◌⋅◌, ◌or◌, any_of}
 
 abbrev pub one_if : Bool → ℕ
 one_if true = 1
@@ -18,7 +18,9 @@ nodes_of kind (float_child ∷ cs) = nodes_of kind cs
 abbrev pub fewest : ℕ → Shape → ℕ
 fewest kind nothing = 0
 fewest kind (leaf_of ks) = 0
+fewest kind any_leaf = 0
 fewest kind (node_of ks) = one_if (every_one (λ k. k == kind) ks)
+fewest kind a_float = 0
 fewest kind (a ⋅ b) = fewest kind a + fewest kind b
 fewest kind (a or b) = min (fewest kind a) (fewest kind b)
 fewest kind (any_of a) = 0
@@ -42,7 +44,9 @@ repeated (Some (suc n)) = None
 abbrev pub most : ℕ → Shape → Option ℕ
 most kind nothing = Some 0
 most kind (leaf_of ks) = Some 0
+most kind any_leaf = Some 0
 most kind (node_of ks) = Some (one_if (among ks kind))
+most kind a_float = Some 0
 most kind (a ⋅ b) = sum_of (most kind a) (most kind b)
 most kind (a or b) = larger_of (most kind a) (most kind b)
 most kind (any_of a) = repeated (most kind a)

@@ -8,7 +8,7 @@ use Rattle.rap_grammar_scripts.specs.Words.{next_is}
 use Rattle.rap_grammar_scripts.specs.declared.rule.Rule.{Rule}
 use Rattle.rap_grammar_scripts.specs.declared.rule.Rule.TheVariants as knot
 use Rattle.rap_grammar_table.specs.AttributeRows.{tree_in}
-use Rattle.rap_grammar_table.specs.Categories.{Ty, PlainTy, Argument, Expr, PlainAtom, ElsePrefixed, StmtList, Pattern, SinglePattern, AtomPath, RoundTree, ArgList, NameExpr, CastTy, CastPath, WithBlock, Atom, Operand, Prefixed, StmtOperand, StmtPrefixed, OpenAtom, OpenPrefixed, Closed, RecordValue, attr_heads, attrs, global_heads, lifetime, literal, literals, name_ref, path_names, Assigned, WithCast}
+use Rattle.rap_grammar_table.specs.Categories.{Ty, PlainTy, Argument, Expr, PlainAtom, ElsePrefixed, StmtList, Pattern, SinglePattern, AtomPath, RoundTree, ArgList, NameExpr, CastTy, CastPath, WithBlock, Atom, Operand, Prefixed, StmtOperand, StmtPrefixed, OpenAtom, OpenPrefixed, RecordValue, attr_heads, attrs, global_heads, lifetime, literal, literals, name_ref, path_names, Assigned, WithCast}
 use Rattle.rap_grammar_table.specs.Known.{Place, behind}
 use Rattle.rap_grammar_table.specs.Look.{anything}
 use Rattle.rap_grammar_table.specs.Notation.{Part, ◌⊳◌, t, ts, weak, op, c, node, opt, either, commas, commas_last, alone, guard, turn, around, Entry, text, rows_of, of_kinds, of_names, touching, colons}

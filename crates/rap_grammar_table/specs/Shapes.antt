@@ -22,13 +22,16 @@ children_of (leaf before kind width) = children_of before ++ leaf_child kind ∷
 children_of (message before bytes) = children_of before ++ message_child ∷ []
 children_of (split before ends_in_dot) = children_of before ++ float_child ∷ []
 
--- Nothing; a leaf or a node of one of these kinds; one after another; one of two; any number of one.
+-- Nothing; a leaf of one of these kinds, or any leaf; a node of one of these kinds; a float that is taken apart; one after
+-- another; one of two; any number of one. (Of the rows no shape has any leaf or such a float.)
 infixl 5 ◌⋅◌
 infixl 4 ◌or◌
 pub data Shape : Type 0 where
   nothing : Shape
   leaf_of : List ℕ → Shape
+  any_leaf : Shape
   node_of : List ℕ → Shape
+  a_float : Shape
   ◌⋅◌ : Shape → Shape → Shape
   ◌or◌ : Shape → Shape → Shape
   any_of : Shape → Shape
@@ -37,7 +40,9 @@ pub data Shape : Type 0 where
 pub data Spells : Shape → List Child → Type 0 where
   no_child : Spells nothing []
   a_leaf : {kinds : List ℕ} {kind : ℕ} → among kinds kind ≡ true → Spells (leaf_of kinds) (leaf_child kind ∷ [])
+  some_leaf : {kind : ℕ} → Spells any_leaf (leaf_child kind ∷ [])
   a_node : {kinds : List ℕ} {kind : ℕ} → among kinds kind ≡ true → Spells (node_of kinds) (node_child kind ∷ [])
+  the_float : Spells a_float (float_child ∷ [])
   in_order : {a b : Shape} {cs ds : List Child} → Spells a cs → Spells b ds → Spells (a ⋅ b) (cs ++ ds)
   by_first : {a b : Shape} {cs : List Child} → Spells a cs → Spells (a or b) cs
   by_second : {a b : Shape} {cs : List Child} → Spells b cs → Spells (a or b) cs
@@ -195,7 +200,9 @@ same_kinds ks js = false
 abbrev pub same_shape : Shape → Shape → Bool
 same_shape nothing nothing = true
 same_shape (leaf_of ks) (leaf_of js) = same_kinds ks js
+same_shape any_leaf any_leaf = true
 same_shape (node_of ks) (node_of js) = same_kinds ks js
+same_shape a_float a_float = true
 same_shape (a ⋅ b) (x ⋅ y) = same_shape a x && same_shape b y
 same_shape (a or b) (x or y) = same_shape a x && same_shape b y
 same_shape (any_of a) (any_of x) = same_shape a x

@@ -1,6 +1,6 @@
 -- White space in ASCII ends before a byte with which no white space begins.
 use lib.Utf8.{encode}
-use Rattle.std.proofs.Common.{◌≡◌, ◌<◌, ◌≤◌, ℕ, Bool, true, false, ◌||◌, ◌&&◌, ◌==◌, nat_le, nat_lt, List, [], ◌∷◌, ◌++◌, if◌then◌else◌, length, drop, get_or, chars, encode_utf8_all, IsUtf8, refl, ap, sym, ◌∙◌, inl, inr, arith, append-nil}
+use Rattle.std.proofs.Common.{◌≡◌, ◌<◌, ◌≤◌, ℕ, true, false, ◌&&◌, ◌==◌, nat_le, List, [], ◌∷◌, ◌++◌, length, drop, get_or, chars, encode_utf8_all, IsUtf8, refl, ap, sym, ◌∙◌, inl, inr, arith, append-nil}
 use Rattle.std.proofs.lemmas.Bool.{cases_lt, lt-ltb, true≢false}
 use Rattle.std.proofs.lemmas.Bool.Decides.{eqb_tells}
 use Rattle.std.proofs.lemmas.Str.{encode_ascii, encodes-chars, length-le-encodes}

@@ -120,8 +120,7 @@ fn plain_number(text: &str) -> Option<CommonToken>
 
 /// Where the plain number ends that a text begins with, which begins with a digit.
 ///
-/// It stands apart, since few tokens are numbers: the loop that takes the common ones is faster without it. It returns no
-/// [`CommonToken`]: were it that loop's token itself, each token would go through memory.
+/// It stands apart, since few tokens are numbers: the loop that takes the common ones is faster without it.
 #[inline(never)]
 fn number_of(text: &str) -> Option<NumberEnd>
     requires { next_fits (is_ascii_in Digit) text.now ≡ true }
