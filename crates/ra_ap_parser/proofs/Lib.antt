@@ -1,3 +1,4 @@
 pub mod Closing
+pub mod EntryShapes
 pub mod EntryTrees
 pub mod Parsed

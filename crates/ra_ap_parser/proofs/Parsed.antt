@@ -26,6 +26,7 @@ use Rattle.ra_ap_parser.specs.Headline.{HasTooManyTokens, Headline, IsParsed, Le
 use Rattle.ra_ap_parser.specs.declared.entry_point.TopEntryPoint.{TopEntryPoint}
 use Rattle.ra_ap_parser.specs.declared.whole_text.TextFault.{TextFault}
 use Rattle.ra_ap_parser.specs.declared.whole_text.TextFault.TheVariants.{TextTooLong, TooManyTokens, NoMemory, Refused}
+use Rattle.ra_ap_parser.proofs.EntryShapes.{entry_shapes}
 use Rattle.ra_ap_parser.proofs.EntryTrees.{core_tree}
 use Rattle.rap_base.specs.Limits.{max_tokens}
 
@@ -54,6 +55,7 @@ parsed text edition entry lexed input f small lexing e few tree made one tokens 
   all_used = tree.forest.used ∙ ap length e;
   few_steps = subst (λ (rs : List Record). length (flat f) ≤ 256 * (length rs + 1)) e tree.forest.few;
   made = subst (λ (rs : List Record). IsOutputOf entry rs f) e made;
+  shapes = entry_shapes entry input f made;
   core = λ t h. core_tree entry (records lexed.tokens edition) (subst (λ (rs : List Record). IsOutputOf entry rs f) e made) h;
   str_one = one;
   few_whole =

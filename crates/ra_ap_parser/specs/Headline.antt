@@ -3,6 +3,7 @@ use Rattle.std.specs.Prelude.{◌≡◌, ℕ, ◌+◌, ◌*◌, ◌≤◌, ◌<�
 use Rattle.rap_base.specs.declared.edition.Edition.{Edition}
 use Rattle.rap_events.specs.Cover.{covers}
 use Rattle.rap_events.specs.Forest.{Forest, flat, one_tree, used, message_count}
+use Rattle.rap_grammar_shapes.specs.HaveShapes.{HaveShapesWithin}
 use Rattle.ra_ap_parser.specs.EntryScript.{IsOutputOf, IsCore}
 use Rattle.rap_lexed.specs.Input.{records}
 use Rattle.rap_lexed.specs.LexedStr.{Lexed, IsLexing}
@@ -16,7 +17,8 @@ use Rattle.ra_ap_parser.specs.declared.whole_text.TextFault.TheVariants.{TextToo
 use Rattle.rap_base.specs.Limits.{max_tokens}
 
 -- The text's tokens; one tree over all those that are no trivia, in at most 256 steps for each and 256 more; that it is
--- the entry's, and where the core grammar derives the tokens, their derivation's, without a message; and the same tree
+-- the entry's, that its nodes have the shapes of their kinds, and where the core grammar derives the tokens, that it is
+-- their derivation's, without a message; and the same tree
 -- with the trivia put back, which is one tree too, in at most 266 steps for each byte of the text and 266 more.
 pub record IsParsed (text : List ℕ) (edition : Edition) (entry : TopEntryPoint) (lexed : Lexed) (forest : Forest) : Type 0 where
   pub small : length text ≤ 4294967295
@@ -27,6 +29,7 @@ pub record IsParsed (text : List ℕ) (edition : Edition) (entry : TopEntryPoint
   pub all_used : used forest ≡ length (records lexed.tokens edition)
   pub few_steps : length (flat forest) ≤ 256 * (length (records lexed.tokens edition) + 1)
   pub made : IsOutputOf entry (records lexed.tokens edition) forest
+  pub shapes : HaveShapesWithin forest
   pub core : (tree : Forest) → IsCore entry (records lexed.tokens edition) tree → (forest ≡ tree) × (message_count forest ≡ 0)
   pub str_one : str_one_tree (with_trivia lexed.tokens forest) ≡ true
   pub few_whole : length (str_flat (with_trivia lexed.tokens forest)) ≤ 266 * (length text + 1)

@@ -4,6 +4,7 @@ ghost use Rattle.rap_events.specs.Forest.{Forest, message_count};
 ghost use Rattle.rap_events.specs.Record.{Record, IsTokenRecord};
 ghost use Rattle.rap_grammar.specs.Part.{IsPrefixOver, IsWhole};
 ghost use Rattle.rap_grammar.specs.Top.{IsTreeOver};
+ghost use Rattle.rap_grammar_shapes.specs.HaveShapes.{HaveShapes, HaveShapesWithin};
 
 use rap_base::no_memory::NoMemory;
 use rap_events::input::Input;
@@ -92,6 +93,10 @@ impl TopEntryPoint {
     ///
     /// The error is `TooManyTokens` exactly for an input of more than [`MAX_TOKENS`] tokens, which is tested first;
     /// otherwise `NoMemory` if the allocator refused a request. The tree is that of the entry's script, and no other.
+    /// Each node that has no message and no `ERROR` right under it has children that the shape of its kind spells, in
+    /// order, of right and of wrong inputs; but an `ERROR` over everything, which an entry puts around what it did not
+    /// read as one tree, may hold anything. What the shapes are is in docs/NODES.md.
+    ///
     /// An input that the core grammar derives gives its derivation's tree, without a message: under `SourceFile` as a
     /// file, under `Expr` as an expression, under `Ty` as a type, under `Pattern` as a pattern and under `MetaItem` as
     /// what stands in the brackets of an attribute. The core grammar is a table of rows; what its relation derives the
@@ -111,6 +116,7 @@ impl TopEntryPoint {
         ensures tree { IfOk result (IsTreeOver input.now) }
         ensures script { IfOk result (IsOutputOf self.now input.now) }
         ensures only { IfOk result (λ output. (other : Forest) → IsOutputOf self.now input.now other → other ≡ output) }
+        ensures shapes { IfOk result HaveShapesWithin }
         ensures core { IfOk result (λ output. (tree : Forest) → IsCore self.now input.now tree → (output ≡ tree) × (message_count output ≡ 0)) }
         ensures macro_call { IfOk result (λ output. (tree : Forest) → IsCall self.now input.now tree → (output ≡ tree) × (message_count output ≡ 0)) }
         ensures front { IfOk result (KeepsFront self.now input.now) }
@@ -182,15 +188,17 @@ impl PrefixEntryPoint {
     /// that ends in a dot: the node of such a float stands in another node. The number of tokens that it takes is the
     /// sum of the `n_input_tokens` of its steps, and one for each float that is split. The error is `TooManyTokens`
     /// exactly for an input of more than [`MAX_TOKENS`] tokens, which is tested first; otherwise `NoMemory` if the
-    /// allocator refused a request. The output is that of the entry's script, and no other. If the core grammar derives
-    /// a prefix of the input and the next tokens can follow it, the output is the tree of the derivation, without a
-    /// message, and takes that prefix. It may be a block, a type, an expression, an item, a pattern with or without
-    /// alternatives, what stands in the brackets of an attribute, the path of a type, a visibility, or a statement
-    /// without its semicolon.
+    /// allocator refused a request. The output is that of the entry's script, and no other. Each of its nodes that has
+    /// no message and no `ERROR` right under it has children that the shape of its kind spells, in order. If the core
+    /// grammar derives a prefix of the input and the next tokens can follow it, the output is the tree of the
+    /// derivation, without a message, and takes that prefix. It may be a block, a type, an expression, an item, a
+    /// pattern with or without alternatives, what stands in the brackets of an attribute, the path of a type, a
+    /// visibility, or a statement without its semicolon.
     pub fn parse(&self, alloc: Global, input: &Input) -> Result<Output, ParseFault>
         ensures prefix { IfOk result (IsPrefixOver input.now) }
         ensures script { IfOk result (IsPrefixOutputOf self.now input.now) }
         ensures only { IfOk result (λ output. (other : Forest) → IsPrefixOutputOf self.now input.now other → other ≡ output) }
+        ensures shapes { IfOk result HaveShapes }
         ensures dots { IfOk result (λ output. dots_inside output ≡ true) }
         ensures core { IfOk result (λ output. (front rest : List Record) (tree : Forest) → input.now ≡ front ++ rest → IsPrefixCore self.now front rest tree → IsWhole tree (length front) output) }
         ensures too_many { (result ≡ Err ParseFault.TooManyTokens) ↔ (MAX_TOKENS < length input.now) }

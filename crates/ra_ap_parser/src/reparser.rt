@@ -3,6 +3,7 @@ ghost use Rattle.std.specs.Prelude.{◌≡◌, ◌≢◌, ◌<◌, ◌≤◌, �
 ghost use Rattle.rap_base.specs.TokenKind.{L_CURLY};
 ghost use Rattle.rap_events.specs.Forest.{Forest};
 ghost use Rattle.rap_events.specs.Record.{Record, next_kind};
+ghost use Rattle.rap_grammar_shapes.specs.HaveShapes.{HaveShapes};
 ghost use Rattle.rap_grammar.specs.Part.{IsPrefixOver, IsPrefixOf, IsPartCore, IsWhole, IsOneNode, part_script, part_kind, asks_brace, in_braces};
 
 use crate::closed::{count_significant, ends_in_brace, has_used};
@@ -154,8 +155,9 @@ impl Reparser {
     ///
     /// If the input begins with `{`, the output is exactly one node, of the reparser's kind. Tokens after its closing
     /// brace are left. No node at the output's top ends with a float that ends in a dot: the node of such a float
-    /// stands in another node. What the core grammar derives as the node is its derivation's tree again, without a
-    /// message: a block, any list in braces that has a reparser, or a token tree, which is any tokens whose brackets
+    /// stands in another node. Each node that has no message and no `ERROR` right under it has children that the shape
+    /// of its kind spells, in order. What the core grammar derives as the node is its derivation's tree again, without
+    /// a message: a block, any list in braces that has a reparser, or a token tree, which is any tokens whose brackets
     /// are balanced, in brackets. So such a node in the tree of anything that the core grammar derives is itself again
     /// when it is parsed from its own tokens, if it begins with a brace, as a block with a label does not. So does each
     /// in a tree of the grammar's relation, and in a macro call: the law
@@ -168,6 +170,7 @@ impl Reparser {
         ensures script { IfOk result (IsPrefixOf (part_script self) input.now) }
         ensures only { IfOk result (λ output. (other : Forest) → IsPrefixOf (part_script self) input.now other → other ≡ output) }
         ensures core { IfOk result (λ output. (front rest : List Record) (tree : Forest) → input.now ≡ front ++ rest → IsPartCore self front tree → IsWhole tree (length front) output) }
+        ensures shapes { IfOk result HaveShapes }
         ensures dots { IfOk result (λ output. dots_inside output ≡ true) }
         ensures again { IfOk result (IsAgainItself self input.now) }
         ensures one { IfOk result (λ output. next_kind input.now ≡ L_CURLY → IsOneNode (part_kind self) output) }

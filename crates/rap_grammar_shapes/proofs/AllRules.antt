@@ -1,34 +1,31 @@
 -- Every rule brings what is claimed of it, and what a script appends has the children of its nodes' kinds.
-use Rattle.std.proofs.Common.{◌≡◌, ℕ, zero, suc, Bool, true, false, List, [], ◌∷◌, Some, if◌then◌else◌, refl, sym, subst, ap, ◌∙◌}
+use Rattle.std.proofs.Common.{◌≡◌, ℕ, Bool, true, false, List, [], ◌∷◌, if◌then◌else◌, refl, sym, subst, ap, ◌∙◌}
 use Rattle.rap_events.proofs.Truth.{and_left, and_right}
 use Rattle.rap_events.specs.Forest.{Forest, none, node, leaf, message, split, ◌⧺◌}
 use Rattle.rap_grammar_core.specs.StandsIn.{last_node, in_last_node, before_node, before_leaf, before_message, before_split}
-use Rattle.rap_grammar_scripts.specs.Exec.{exec, run_of}
 use Rattle.rap_grammar_scripts.specs.Knot.{script_of}
-use Rattle.rap_grammar_scripts.specs.Script.{Script, Outcome}
-use Rattle.rap_grammar_scripts.specs.Stand.{Stand}
+use Rattle.rap_grammar_scripts.specs.Script.{Script, Outcome, Spot, Runs}
 use Rattle.rap_grammar_scripts.specs.Tally.{same_outcome}
 use Rattle.rap_grammar_scripts.specs.declared.arguments.Semicolon.{Semicolon}
 use Rattle.rap_grammar_scripts.specs.declared.arguments.Semicolon.TheVariants as semicolon
 use Rattle.rap_grammar_scripts.specs.declared.rule.Rule.{Rule}
 use Rattle.rap_grammar_scripts.specs.declared.rule.Rule.TheVariants as knot
-use Rattle.rap_grammar_scripts.proofs.Exec.{no_end}
 use Rattle.rap_grammar_scripts.proofs.Tally.{same_is}
 use Rattle.rap_grammar_table.specs.Known.{among}
 use Rattle.rap_grammar_table.specs.Shapes.{Child, children_of, Spells}
 use Rattle.rap_grammar_table.proofs.Known.{by_or, every_so}
 use Rattle.rap_grammar_table.proofs.Shaped.{OfChildren, AllSo, all_so-⧺, found}
-use Rattle.rap_grammar_shapes.specs.HaveShapes.{HaveShapes, RulesKeepShapes}
+use Rattle.rap_grammar_shapes.specs.HaveShapes.{HaveShapes, RulesKeepShapes, KeepsShapes, MakesNode}
 use Rattle.rap_grammar_shapes.specs.Shapes.{shape_of}
 use Rattle.rap_grammar_shapes.specs.Whole.{IsWhole}
 use Rattle.rap_grammar_shapes.proofs.Along.{spelled}
 use Rattle.rap_grammar_shapes.proofs.Claims.{brings}
-use Rattle.rap_grammar_shapes.proofs.Content.{Content, nothing, leaf_of, node_of, spoilt, ◌or◌, Holds, no_child, a_leaf, a_node, by_first, by_second}
+use Rattle.rap_grammar_shapes.proofs.Content.{Content, nothing, leaf_of, node_of, spoilt, ◌or◌, Holds, a_leaf, a_node, by_first, by_second}
 use Rattle.rap_grammar_shapes.proofs.Ends.{Contents, astray, contents, Ends, ends, has_leaves, has_nodes, has_spoilt, within, end_among, all_among}
 use Rattle.rap_grammar_shapes.proofs.ExprRules.{expr_keeps_no_structs_first, expr_keeps_no_structs, expr_keeps_structs_first, expr_keeps_structs}
 use Rattle.rap_grammar_shapes.proofs.GenericRules.{generic_arg_keeps, generic_param_list_keeps, bounds_keep, where_clause_keeps}
 use Rattle.rap_grammar_shapes.proofs.ItemRules.{item_keeps}
-use Rattle.rap_grammar_shapes.proofs.Keeps.{Among, this_one, later_one, Brought, this_way, other_way, BringsSo, keeps}
+use Rattle.rap_grammar_shapes.proofs.Keeps.{Among, this_one, later_one, Brought, this_way, other_way, BringsSo, keeps, nothing_yet}
 use Rattle.rap_grammar_shapes.proofs.Known.{is_known, all_known, knows, may_stand, all_stand, stands_under}
 use Rattle.rap_grammar_shapes.proofs.Models.{model}
 use Rattle.rap_grammar_shapes.proofs.PatternRules.{pattern_keeps, pattern_single_keeps, arm_pattern_keeps}
@@ -69,7 +66,7 @@ within_so (a or b) c cs h (by_second s) = within_so b c cs (and_right (within a 
 within_so a c cs h s = absurd cc
 
 way_if : (b : Bool) (v w : Outcome) (a : Content) (e : Outcome × Content) (k : List (Outcome × Content))
-    (p q : Stand) → (b ≡ true → w ≡ e.0) → v ≡ w →
+    (p q : Spot) → (b ≡ true → w ≡ e.0) → v ≡ w →
     (if b then within a e.1 else end_among w (contents a []) k) ≡ true →
     (end_among w (contents a []) k ≡ true → Brought k v p q) → Part p.forest p.below a q.forest q.below →
     Brought (e ∷ k) v p q
@@ -85,7 +82,7 @@ way_if true v w a e k p q i j h f x =
     }))
 way_if false v w a e k p q i j h f x = other_way (f h)
 
-end_so : (k : List (Outcome × Content)) (v w : Outcome) (x : Contents) (p q : Stand) → v ≡ w →
+end_so : (k : List (Outcome × Content)) (v w : Outcome) (x : Contents) (p q : Spot) → v ≡ w →
     end_among w x k ≡ true → Is p.forest p.below x q → Brought k v p q
 end_so k v w astray p q i h a = absurd cc
 end_so k v w (contents a (b ∷ os)) p q i h x = absurd cc
@@ -93,15 +90,11 @@ end_so [] v w (contents a []) p q i h x = absurd cc
 end_so (e ∷ k) v w (contents a []) p q i h x =
     way_if (same_outcome w e.0) v w a e k p q (same_is w e.0) i h (λ j. end_so k v w (contents a []) p q i j x) x
 
-all_so : (l : Ends) (k : List (Outcome × Content)) (v : Outcome) (p q : Stand) → all_among l k ≡ true →
+all_so : (l : Ends) (k : List (Outcome × Content)) (v : Outcome) (p q : Spot) → all_among l k ≡ true →
     Among p.forest p.below l v q → Brought k v p q
 all_so [] k v p q h a = elim a [ ]
 all_so (e ∷ l) k v p q h (this_one i c) = end_so k v e.0 e.1 p q i (and_left (end_among e.0 e.1 k) _ h) c
 all_so (e ∷ l) k v p q h (later_one a) = all_so l k v p q (and_right (end_among e.0 e.1 k) _ h) a
-
--- what stands there at the beginning
-nothing_yet : (p : Stand) → Is p.forest p.below (contents nothing []) p
-nothing_yet p = record { new = none; forest = refl; below = refl; holds = no_child; so = tt }
 
 -- every rule, by its arguments
 expr_keeps : (a b : Bool) (bp : ℕ) → Keeps (knot.ExprBp (record { forbid_structs = a; prefer_stmt = b }) bp)
@@ -139,12 +132,14 @@ each_keeps knot.Meta = meta_keeps
 each_keeps knot.CfgPredicate = cfg_predicate_keeps
 each_keeps knot.TokenTree = token_tree_keeps
 
--- Every rule brings what is claimed of it, with any number of rules inside one another.
-pub all_bring : (n : ℕ) → BringsSo n
-all_bring zero c p q v e = no_end e
-all_bring (suc n) c p q v e =
-    all_so (ends (script_of c) (contents nothing [])) (brings c) v p q (each_keeps c)
-    (keeps n (all_bring n) (script_of c) (contents nothing []) p.forest p.below p q v e (nothing_yet p))
+-- Every rule brings what is claimed of it.
+pub all_bring : BringsSo
+all_bring c p q v a = all_so (ends (script_of c) (contents nothing [])) (brings c) v p q (each_keeps c) a
+
+-- where a script ends that begins where nothing was appended yet
+ends_from : (s : Script Rule) (p q : Spot) (v : Outcome) → Runs script_of s p q v →
+    Among p.forest p.below (ends s (contents nothing [])) v q
+ends_from s p q v r = keeps all_bring p q v r (contents nothing []) p.forest p.below (nothing_yet p)
 
 -- a node is of the shape of its kind
 abbrev pub Spelled : OfChildren
@@ -175,7 +170,7 @@ all_of (message f m) h = all_of f (λ place kind children n u. h place kind chil
 all_of (split f d) h = all_of f (λ place kind children n u. h place kind children (before_split n) u)
 
 -- what a rule brings is so
-brought_so : (k : List (Outcome × Content)) (v : Outcome) (p q : Stand) → Brought k v p q → AllSo Spelled p.forest →
+brought_so : (k : List (Outcome × Content)) (v : Outcome) (p q : Spot) → Brought k v p q → AllSo Spelled p.forest →
     AllSo Spelled q.forest
 brought_so k v p q (this_way i x) a =
     subst (λ (f : Forest). AllSo Spelled f) (sym x.forest)
@@ -184,11 +179,12 @@ brought_so (e ∷ k) v p q (other_way b) a = brought_so k v p q b a
 
 -- Rules add nodes that have the children of their kinds.
 pub rules_keep : RulesKeepShapes
-rules_keep n c p q v e h =
-    shapes_of q.forest (brought_so (brings c) v p q (all_bring n c p q v e) (all_of p.forest h))
+rules_keep c p q v r h =
+    shapes_of q.forest
+    (brought_so (brings c) v p q (all_bring c p q v (ends_from (script_of c) p q v r)) (all_of p.forest h))
 
 -- what a known end has appended
-known_so : (x : Contents) (p q : Stand) → is_known x ≡ true → Is p.forest p.below x q → AllSo Spelled p.forest →
+known_so : (x : Contents) (p q : Spot) → is_known x ≡ true → Is p.forest p.below x q → AllSo Spelled p.forest →
     AllSo Spelled q.forest
 known_so astray p q h i a = absurd cc
 known_so (contents c (b ∷ os)) p q h i a = absurd cc
@@ -196,29 +192,26 @@ known_so (contents c []) p q h i a =
     subst (λ (f : Forest). AllSo Spelled f) (sym i.forest)
     (all_so-⧺ Spelled p.forest i.new a (spelled_all i.new i.so))
 
-all_known_so : (l : Ends) (v : Outcome) (p q : Stand) → all_known l ≡ true → Among p.forest p.below l v q →
+all_known_so : (l : Ends) (v : Outcome) (p q : Spot) → all_known l ≡ true → Among p.forest p.below l v q →
     AllSo Spelled p.forest → AllSo Spelled q.forest
 all_known_so [] v p q h a x = elim a [ ]
 all_known_so (e ∷ l) v p q h (this_one i c) x = known_so e.1 p q (and_left (is_known e.1) (all_known l) h) c x
 all_known_so (e ∷ l) v p q h (later_one a) x = all_known_so l v p q (and_right (is_known e.1) (all_known l) h) a x
 
 -- A script whose ends are known adds nodes that have the children of their kinds.
-pub script_so : (n : ℕ) (s : Script Rule) → knows s ≡ true → (p q : Stand) (v : Outcome) →
-    exec (run_of n) s p ≡ Some (q, v) → HaveShapes p.forest → HaveShapes q.forest
-script_so n s h p q v e a =
+pub script_so : (s : Script Rule) → knows s ≡ true → KeepsShapes s
+script_so s h p q v r a =
     shapes_of q.forest
-    (all_known_so (ends s (contents nothing [])) v p q h
-    (keeps n (all_bring n) s (contents nothing []) p.forest p.below p q v e (nothing_yet p)) (all_of p.forest a))
+    (all_known_so (ends s (contents nothing [])) v p q h (ends_from s p q v r) (all_of p.forest a))
 
 -- no node stands in no tree
 no_nodes : HaveShapes none
 no_nodes place kind children n w = elim n [ ]
 
 -- From nothing on all nodes are so.
-pub script_from_none : (n : ℕ) (s : Script Rule) → knows s ≡ true → (p q : Stand) (v : Outcome) →
-    exec (run_of n) s p ≡ Some (q, v) → p.forest ≡ none → HaveShapes q.forest
-script_from_none n s h p q v e i =
-    script_so n s h p q v e (subst (λ (f : Forest). HaveShapes f) (sym i) no_nodes)
+pub from_none : (s : Script Rule) → KeepsShapes s → (p q : Spot) (v : Outcome) → Runs script_of s p q v →
+    p.forest ≡ none → HaveShapes q.forest
+from_none s k p q v r i = k p q v r (subst (λ (f : Forest). HaveShapes f) (sym i) no_nodes)
 
 none-⧺ : (f : Forest) → none ⧺ f ≡ f
 none-⧺ none = refl
@@ -228,7 +221,7 @@ none-⧺ (message f m) = ap (λ (x : Forest). message x m) (none-⧺ f)
 none-⧺ (split f d) = ap (λ (x : Forest). split x d) (none-⧺ f)
 
 -- what may stand under a node of a kind
-stand_so : (kind : ℕ) (x : Contents) (p q : Stand) → may_stand kind x ≡ true → p.forest ≡ none →
+stand_so : (kind : ℕ) (x : Contents) (p q : Spot) → may_stand kind x ≡ true → p.forest ≡ none →
     Is p.forest p.below x q → AllSo Claimed (node none kind q.forest)
 stand_so kind astray p q h e i = absurd cc
 stand_so kind (contents c (b ∷ os)) p q h e i = absurd cc
@@ -237,7 +230,7 @@ stand_so kind (contents c []) p q h e i =
     subst (λ (y : Forest). AllSo Claimed (node none kind y)) (sym f)
     (tt, i.so, λ w. runs_so (model kind) c h (children_of i.new) i.holds w)
 
-all_stand_so : (kind : ℕ) (l : Ends) (v : Outcome) (p q : Stand) → all_stand kind l ≡ true → p.forest ≡ none →
+all_stand_so : (kind : ℕ) (l : Ends) (v : Outcome) (p q : Spot) → all_stand kind l ≡ true → p.forest ≡ none →
     Among p.forest p.below l v q → AllSo Claimed (node none kind q.forest)
 all_stand_so kind [] v p q h e a = elim a [ ]
 all_stand_so kind (x ∷ l) v p q h e (this_one i c) =
@@ -246,10 +239,8 @@ all_stand_so kind (x ∷ l) v p q h e (later_one a) =
     all_stand_so kind l v p q (and_right (may_stand kind x.1) (all_stand kind l) h) e a
 
 -- What a script makes from nothing on may stand under a node of a kind: all nodes are so, with that one.
-pub root_so : (n kind : ℕ) (s : Script Rule) → stands_under kind s ≡ true → (p q : Stand) (v : Outcome) →
-    exec (run_of n) s p ≡ Some (q, v) → p.forest ≡ none → HaveShapes (node none kind q.forest)
-root_so n kind s h p q v e i =
+pub root_so : (kind : ℕ) (s : Script Rule) → stands_under kind s ≡ true → MakesNode kind s
+root_so kind s h p q v r i =
     shapes_of (node none kind q.forest)
     (spelled_all (node none kind q.forest)
-    (all_stand_so kind (ends s (contents nothing [])) v p q h i
-    (keeps n (all_bring n) s (contents nothing []) p.forest p.below p q v e (nothing_yet p))))
+    (all_stand_so kind (ends s (contents nothing [])) v p q h i (ends_from s p q v r)))

@@ -114,68 +114,32 @@ items_of_list_known = refl
 pub roots_so : RootsHaveShapes
 roots_so =
     record {
-      file = λ n p q v e i. root_so n SOURCE_FILE source_file file_stand p q v e i;
-      items = λ n p q v e i. root_so n MACRO_ITEMS (mod_contents false) items_stand p q v e i;
-      statements = λ n p q v e i. root_so n MACRO_STMTS macro_stmts statements_stand p q v e i;
+      file = root_so SOURCE_FILE source_file file_stand;
+      items = root_so MACRO_ITEMS (mod_contents false) items_stand;
+      statements = root_so MACRO_STMTS macro_stmts statements_stand;
     }
 
 -- What is read alone has shapes.
 pub alone_so : AloneHaveShapes
-alone_so = (
-  λ n p q v e h. script_so n (opt_visibility false) visibility_known p q v e h,
-  (
-    λ n p q v e h. script_so n block_expr block_known p q v e h,
-    (
-      λ n p q v e h. script_so n (stmt semicolon.Forbidden) statement_known p q v e h,
-      (
-        λ n p q v e h. script_so n pattern_single single_pattern_known p q v e h,
-        (
-          λ n p q v e h. script_so n pattern pattern_known p q v e h,
-          (
-            λ n p q v e h. script_so n type_ type_known p q v e h,
-            (
-              λ n p q v e h. script_so n expr expression_known p q v e h,
-              (
-                λ n p q v e h. script_so n type_path path_known p q v e h,
-                (
-                  λ n p q v e h. script_so n (item_or_macro true true) item_known p q v e h,
-                  (
-                    λ n p q v e h. script_so n meta meta_known p q v e h,
-                    (
-                      λ n p q v e h. script_so n record_field_list record_fields_known p q v e h,
-                      (
-                        λ n p q v e h. script_so n record_expr_field_list record_expr_fields_known p q v e h,
-                        (
-                          λ n p q v e h. script_so n variant_list variants_known p q v e h,
-                          (
-                            λ n p q v e h. script_so n match_arm_list arms_known p q v e h,
-                            (
-                              λ n p q v e h. script_so n use_tree_list use_trees_known p q v e h,
-                              (
-                                λ n p q v e h. script_so n extern_item_list extern_items_known p q v e h,
-                                (
-                                  λ n p q v e h. script_so n token_tree token_tree_known p q v e h,
-                                  (
-                                    λ n p q v e h. script_so n assoc_item_list assoc_items_known p q v e h,
-                                    (
-                                      λ n p q v e h. script_so n item_list items_of_list_known p q v e h,
-                                      tt,
-                                    ),
-                                  ),
-                                ),
-                              ),
-                            ),
-                          ),
-                        ),
-                      ),
-                    ),
-                  ),
-                ),
-              ),
-            ),
-          ),
-        ),
-      ),
-    ),
-  ),
-)
+alone_so =
+    record {
+      visibility = script_so (opt_visibility false) visibility_known;
+      block = script_so block_expr block_known;
+      statement = script_so (stmt semicolon.Forbidden) statement_known;
+      single_pattern = script_so pattern_single single_pattern_known;
+      pattern = script_so pattern pattern_known;
+      type = script_so type_ type_known;
+      expression = script_so expr expression_known;
+      path = script_so type_path path_known;
+      item = script_so (item_or_macro true true) item_known;
+      meta = script_so meta meta_known;
+      record_fields = script_so record_field_list record_fields_known;
+      record_values = script_so record_expr_field_list record_expr_fields_known;
+      variants = script_so variant_list variants_known;
+      match_arms = script_so match_arm_list arms_known;
+      use_trees = script_so use_tree_list use_trees_known;
+      extern_items = script_so extern_item_list extern_items_known;
+      tokens = script_so token_tree token_tree_known;
+      assoc_items = script_so assoc_item_list assoc_items_known;
+      items = script_so item_list items_of_list_known;
+    }

@@ -1,19 +1,19 @@
 -- Which children the nodes of a forest have.
-use Rattle.std.specs.Prelude.{◌≡◌, ℕ, true, false, List, [], ◌∷◌, Some}
+use Rattle.std.specs.Prelude.{◌≡◌, ◌⊎◌, ℕ, true, false}
 use Rattle.rap_base.specs.NodeKind.{SOURCE_FILE, MACRO_ITEMS, MACRO_STMTS}
+use Rattle.rap_base.specs.TokenKind.{ERROR}
 use Rattle.rap_events.specs.Forest.{Forest, none, node}
 use Rattle.rap_grammar_core.specs.StandsIn.{NodeAt}
 use Rattle.rap_grammar_scripts.specs.Adt.{record_field_list, variant_list}
 use Rattle.rap_grammar_scripts.specs.Blocks.{block_expr}
 use Rattle.rap_grammar_scripts.specs.Entry.{source_file, macro_stmts}
-use Rattle.rap_grammar_scripts.specs.Exec.{exec, run_of}
 use Rattle.rap_grammar_scripts.specs.Items.{item_or_macro}
+use Rattle.rap_grammar_scripts.specs.Knot.{script_of}
 use Rattle.rap_grammar_scripts.specs.Matches.{match_arm_list}
 use Rattle.rap_grammar_scripts.specs.Modules.{item_list, extern_item_list, mod_contents}
 use Rattle.rap_grammar_scripts.specs.Paths.{type_path}
 use Rattle.rap_grammar_scripts.specs.Records.{record_expr_field_list}
-use Rattle.rap_grammar_scripts.specs.Script.{Script, Outcome}
-use Rattle.rap_grammar_scripts.specs.Stand.{Stand}
+use Rattle.rap_grammar_scripts.specs.Script.{Script, Outcome, Spot, Runs}
 use Rattle.rap_grammar_scripts.specs.Statements.{stmt}
 use Rattle.rap_grammar_scripts.specs.ThroughKnot.{expr, pattern, pattern_single, type_, meta}
 use Rattle.rap_grammar_scripts.specs.TokenTree.{token_tree}
@@ -33,24 +33,26 @@ HaveShapes forest =
     (place kind : ℕ) (children : Forest) → NodeAt forest place kind children → IsWhole (children_of children) →
     Spells (shape_of kind) (children_of children)
 
--- Whatever a recursive rule makes of any input, with any rules inside one another, it adds trees that are so to what is
--- there: if all nodes were so before, they are so at its end.
-abbrev pub RulesKeepShapes : Type 0
-RulesKeepShapes =
-    (depth : ℕ) (rule : Rule) (p q : Stand) (v : Outcome) → run_of depth rule p ≡ Some (q, v) → HaveShapes p.forest →
-    HaveShapes q.forest
+-- The same of what an entry makes, but for an `ERROR` over everything, which an entry puts around what it did not read as
+-- one tree.
+abbrev pub HaveShapesWithin : Forest → Type 0
+HaveShapesWithin output =
+    (place kind : ℕ) (children : Forest) → NodeAt output place kind children → IsWhole (children_of children) →
+    (output ≡ node none ERROR children) ⊎ Spells (shape_of kind) (children_of children)
 
--- What a script adds, with any rules inside one another, is so.
+-- What a script adds, however it runs, is so: if all nodes were so before, they are so at its end.
 abbrev pub KeepsShapes : Script Rule → Type 0
 KeepsShapes s =
-    (depth : ℕ) (p q : Stand) (v : Outcome) → exec (run_of depth) s p ≡ Some (q, v) → HaveShapes p.forest →
-    HaveShapes q.forest
+    (p q : Spot) (v : Outcome) → Runs script_of s p q v → HaveShapes p.forest → HaveShapes q.forest
+
+-- So is whatever a recursive rule makes of any input.
+abbrev pub RulesKeepShapes : Type 0
+RulesKeepShapes = (rule : Rule) → KeepsShapes (script_of rule)
 
 -- What a script makes under a node that holds nothing yet is so, and the node of this kind over it is so too.
 abbrev pub MakesNode : ℕ → Script Rule → Type 0
 MakesNode kind s =
-    (depth : ℕ) (p q : Stand) (v : Outcome) → exec (run_of depth) s p ≡ Some (q, v) → p.forest ≡ none →
-    HaveShapes (node none kind q.forest)
+    (p q : Spot) (v : Outcome) → Runs script_of s p q v → p.forest ≡ none → HaveShapes (node none kind q.forest)
 
 -- The entries that make a node over the whole input.
 pub record RootsHaveShapes : Type 0 where
@@ -58,17 +60,24 @@ pub record RootsHaveShapes : Type 0 where
   pub items : MakesNode MACRO_ITEMS (mod_contents false)
   pub statements : MakesNode MACRO_STMTS macro_stmts
 
--- the scripts of what is read alone: by an entry, at the front of an input, or where a node is parsed again
-abbrev pub scripts_alone : List (Script Rule)
-scripts_alone =
-    opt_visibility false ∷ block_expr ∷ stmt semicolon.Forbidden ∷ pattern_single ∷ pattern ∷ type_ ∷ expr ∷ type_path ∷
-    item_or_macro true true ∷ meta ∷ record_field_list ∷ record_expr_field_list ∷ variant_list ∷ match_arm_list ∷
-    use_tree_list ∷ extern_item_list ∷ token_tree ∷ assoc_item_list ∷ item_list ∷ []
-
-abbrev pub EachKeepsShapes : List (Script Rule) → Type 0
-EachKeepsShapes [] = Unit {0}
-EachKeepsShapes (s ∷ ss) = KeepsShapes s × EachKeepsShapes ss
-
--- What is read alone.
-abbrev pub AloneHaveShapes : Type 0
-AloneHaveShapes = EachKeepsShapes scripts_alone
+-- What is read alone: by an entry, at the front of an input, or where a node is parsed again.
+pub record AloneHaveShapes : Type 0 where
+  pub visibility : KeepsShapes (opt_visibility false)
+  pub block : KeepsShapes block_expr
+  pub statement : KeepsShapes (stmt semicolon.Forbidden)
+  pub single_pattern : KeepsShapes pattern_single
+  pub pattern : KeepsShapes pattern
+  pub type : KeepsShapes type_
+  pub expression : KeepsShapes expr
+  pub path : KeepsShapes type_path
+  pub item : KeepsShapes (item_or_macro true true)
+  pub meta : KeepsShapes meta
+  pub record_fields : KeepsShapes record_field_list
+  pub record_values : KeepsShapes record_expr_field_list
+  pub variants : KeepsShapes variant_list
+  pub match_arms : KeepsShapes match_arm_list
+  pub use_trees : KeepsShapes use_tree_list
+  pub extern_items : KeepsShapes extern_item_list
+  pub tokens : KeepsShapes token_tree
+  pub assoc_items : KeepsShapes assoc_item_list
+  pub items : KeepsShapes item_list

@@ -1,4 +1,3 @@
 pub mod HaveShapes
-pub mod Shape
 pub mod Shapes
 pub mod Whole
