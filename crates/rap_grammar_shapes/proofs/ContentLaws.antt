@@ -382,3 +382,19 @@ holds_many spoilt cs s = s
 holds_many (a ⋅ b) cs s = s
 holds_many (a or b) cs s = s
 holds_many (any_of a) cs s = s
+
+-- Two contents one behind the other, and either of two, as they are written.
+abbrev pub in_row : Content → Content → Content
+in_row a b = a ⋅ b
+
+abbrev pub either_way : Content → Content → Content
+either_way a b = a or b
+
+pub row_holds : (a b : Content) (cs ds : List Child) → Holds a cs → Holds b ds → Holds (in_row a b) (cs ++ ds)
+row_holds a b cs ds s t = in_order s t
+
+pub first_holds : (a b : Content) (cs : List Child) → Holds a cs → Holds (either_way a b) cs
+first_holds a b cs s = by_first s
+
+pub second_holds : (a b : Content) (cs : List Child) → Holds b cs → Holds (either_way a b) cs
+second_holds a b cs s = by_second s

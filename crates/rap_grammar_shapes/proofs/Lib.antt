@@ -13,6 +13,7 @@ pub mod ItemRules
 pub mod Keeps
 pub mod Known
 pub mod Models
+pub mod Parts
 pub mod PatternRules
 pub mod Runs
 pub mod Small

@@ -1,3 +1,4 @@
 pub mod HaveShapes
+pub mod Parts
 pub mod Shapes
 pub mod Whole

@@ -1,5 +1,6 @@
 //! Laws of the children of nodes. Each is a function that does nothing and whose contract is the law.
 ghost use Rattle.rap_grammar_shapes.specs.HaveShapes.{AloneHaveShapes, RootsHaveShapes, RulesKeepShapes};
+ghost use Rattle.rap_grammar_shapes.specs.Parts.{ShapesCount, ShapesHaveParts, ShapesName};
 
 /// Whatever a recursive rule reads, and with whatever messages: each node that it adds, and that has no message and no
 /// `ERROR` right under it, has children that the shape of its kind spells, in order.
@@ -12,4 +13,13 @@ pub fn every_rule_keeps_shapes()
 pub fn entries_have_shapes()
     ensures roots { RootsHaveShapes }
     ensures alone { AloneHaveShapes }
+{}
+
+/// What shapes say: how many nodes of a kind are among the children, at least and at most; which kinds have exactly one
+/// name; that a function ends in its body or a semicolon; that a binary expression is an expression, an operator and an
+/// expression.
+pub fn shapes_say()
+    ensures counts { ShapesCount }
+    ensures names { ShapesName }
+    ensures parts { ShapesHaveParts }
 {}
