@@ -59,7 +59,8 @@ by_same : (base : Forest) (stack : List Forest) (x : Contents) (f : Contents →
 by_same base stack x f v p a =
     subst (λ (l : Ends). Among base stack l v p) (sym (contents_same x f)) a
 
-put_if : (base : Forest) (stack : List Forest) (b : Bool) (v : Outcome) (x : Contents) (e : Outcome × Contents) (l k : Ends)
+put_if : (base : Forest) (stack : List Forest) (b : Bool) (v : Outcome) (x : Contents) (e : Outcome × Contents)
+    (l k : Ends)
     (p : Spot) → (b ≡ true → v ≡ e.0) → Is base stack x p → (b ≡ false → Among base stack k v p) →
     Among base stack (if b then (e.0, either x e.1) ∷ l else e ∷ k) v p
 put_if base stack true v x e l k p i c a = this_one (i refl) (is_left base stack x e.1 p c)
@@ -71,7 +72,8 @@ put_new base stack [] v x p c = this_one refl c
 put_new base stack (e ∷ l) v x p c =
     put_if base stack (same_outcome v e.0) v x e l (put v x l) p (same_is v e.0) c (λ b. put_new base stack l v x p c)
 
-put_this : (base : Forest) (stack : List Forest) (b : Bool) (x : Contents) (w : Outcome) (e : Outcome × Contents) (l k : Ends)
+put_this : (base : Forest) (stack : List Forest) (b : Bool) (x : Contents) (w : Outcome) (e : Outcome × Contents)
+    (l k : Ends)
     (p : Spot) → w ≡ e.0 → Is base stack e.1 p →
     Among base stack (if b then (e.0, either x e.1) ∷ l else e ∷ k) w p
 put_this base stack true x w e l k p i c = this_one i (is_right base stack x e.1 p c)
@@ -104,7 +106,8 @@ pool_right : (base : Forest) (stack : List Forest) (l k : Ends) (w : Outcome) (p
 pool_right base stack [] k w p a = a
 pool_right base stack (e ∷ l) k w p a = put_old base stack (pool l k) e.0 e.1 w p (pool_right base stack l k w p a)
 
-gathered : (base : Forest) (stack : List Forest) (l : Ends) (f : Outcome → Contents → Ends) (w v : Outcome) (r q : Spot) →
+gathered : (base : Forest) (stack : List Forest) (l : Ends) (f : Outcome → Contents → Ends) (w v : Outcome)
+    (r q : Spot) →
     ((x : Contents) → Is base stack x r → Among base stack (f w x) v q) → Among base stack l w r →
     Among base stack (gather f l) v q
 gathered base stack [] f w v r q h a = elim a [ ]
@@ -122,7 +125,8 @@ pub data Brought : List (Outcome × Content) → Outcome → Spot → Spot → T
   other_way : {e : Outcome × Content} {l : List (Outcome × Content)} {v : Outcome} {p q : Spot} → Brought l v p q →
       Brought (e ∷ l) v p q
 
-rule_so : (base : Forest) (stack : List Forest) (l : List (Outcome × Content)) (x : Contents) (v : Outcome) (p q : Spot) →
+rule_so : (base : Forest) (stack : List Forest) (l : List (Outcome × Content)) (x : Contents) (v : Outcome)
+    (p q : Spot) →
     Is base stack x p → Brought l v p q → Among base stack (rule_ends x l) v q
 rule_so base stack [] x v p q c a = elim a [ ]
 rule_so base stack (e ∷ l) x v p q c (this_way i a) = this_one i (is_behind base stack e.1 x p q c a)
@@ -208,7 +212,8 @@ goes (a_turn a) p r q h i = record {
 }
 goes lost p r q h i = tt
 
-is_repeated : (base : Forest) (stack : List Forest) (t : Turn) (x : Contents) (p r : Spot) → Is base stack x p → Went t p r →
+is_repeated : (base : Forest) (stack : List Forest) (t : Turn) (x : Contents) (p r : Spot) → Is base stack x p →
+    Went t p r →
     Is base stack (repeated t x) r
 is_repeated base stack no_turn x p r h w = subst (λ (s : Spot). Is base stack x s) w h
 is_repeated base stack (a_turn a) x p r h w =
@@ -235,7 +240,8 @@ last_old base stack something v y l q a = later_one a
 last_old base stack block v y l q a = later_one a
 last_old base stack (again c d) v y l q a = a
 
-last_among : (base : Forest) (stack : List Forest) (l : Ends) (v : Outcome) (x : Contents) (r q : Spot) → goes_on v ≡ false →
+last_among : (base : Forest) (stack : List Forest) (l : Ends) (v : Outcome) (x : Contents) (r q : Spot) →
+    goes_on v ≡ false →
     Is base stack x r → Among r.forest r.below l v q → Among base stack (lasts x l) v q
 last_among base stack [] v x r q g h a = elim a [ ]
 last_among base stack (e ∷ l) v x r q g h (this_one i c) =
@@ -285,7 +291,8 @@ turn_so : (h : Bool → Bool → Script Rule) (a b : Bool) (p q : Spot) (v : Out
 turn_so h a b p q v t x base stack i = of_flags base stack (λ c d. ends (h c d) x) a b v q (t x base stack i)
 
 -- turns that append the same each
-turns_keep : (h : Bool → Bool → Script Rule) (base : Forest) (stack : List Forest) (x : Contents) {a b : Bool} (o p q : Spot)
+turns_keep : (h : Bool → Bool → Script Rule) (base : Forest) (stack : List Forest) (x : Contents) {a b : Bool}
+    (o p q : Spot)
     (v : Outcome) → TurnsSo h a b p q v → Is base stack x o → Went (turn_in (turn_ends h (contents nothing []))) o p →
     Among base stack
     (lasts (repeated (turn_in (turn_ends h (contents nothing []))) x) (turn_ends h (contents nothing []))) v q
@@ -359,11 +366,13 @@ rounds_so (suc m) h base stack x p q v t i =
     (λ j.
     rounds_keep h x
     (λ u s c d r f.
-    subst (λ (z : Contents). Is u s z r) (equal_contents_so y x j) (goes_among u s (turn_ends h x) x c d r f)) base stack p
+    subst (λ (z : Contents). Is u s z r) (equal_contents_so y x j)
+    (goes_among u s (turn_ends h x) x c d r f)) base stack p
     q v t i)
     (λ j. rounds_so m h base stack y p q v t (goes_all base stack (turn_ends h x) x p i)))
 
-by_turns : (h : Bool → Bool → Script Rule) (base : Forest) (stack : List Forest) (x : Contents) {a b : Bool} (p q : Spot)
+by_turns : (h : Bool → Bool → Script Rule) (base : Forest) (stack : List Forest) (x : Contents) {a b : Bool}
+    (p q : Spot)
     (v : Outcome) → TurnsSo h a b p q v → Is base stack x p → (t : Turn) →
     Among base stack (lasts (repeated t x) (turn_ends h (contents nothing []))) v q →
     Among base stack (by_turn t (turn_ends h (contents nothing [])) (λ y. turn_ends h y) x) v q
@@ -414,8 +423,9 @@ kept o p q v (takes {k = c} {s = s} e r) =
 kept o p q v (takes_any {s = s} e r) =
     λ x base stack k.
     by_same base stack (with_more any_leaf x) (λ y. ends s y) v q
-    (run_so s (taken (next_kind p.rest) 1 p) q v (kept o (taken (next_kind p.rest) 1 p) q v r) (with_more any_leaf x) base
-    stack (is_any base stack (next_kind p.rest) 1 x p (taken (next_kind p.rest) 1 p) refl refl k))
+    (run_so s (taken (next_kind p.rest) 1 p) q v (kept o (taken (next_kind p.rest) 1 p) q v r)
+    (with_more any_leaf x) base stack
+    (is_any base stack (next_kind p.rest) 1 x p (taken (next_kind p.rest) 1 p) refl refl k))
 kept o p q v (bears {k = c} {s = s} e r) =
     λ x base stack k.
     by_same base stack (with_more (leaf_of (c ∷ [])) x) (λ y. ends s y) v q

@@ -80,13 +80,15 @@ is_more base stack s astray p q u e i t a h = tt
 is_more base stack s (contents a os) p q u e i t d h = rw (e, i) (more base stack a s os p.forest u p.below h t d)
 
 -- A token is taken.
-pub is_leaf : (base : Forest) (stack : List Forest) (k w : ℕ) (x : Contents) (p q : Spot) → q.forest ≡ leaf p.forest k w →
+pub is_leaf : (base : Forest) (stack : List Forest) (k w : ℕ) (x : Contents) (p q : Spot) →
+    q.forest ≡ leaf p.forest k w →
     q.below ≡ p.below → Is base stack x p → Is base stack (with_more (leaf_of (k ∷ [])) x) q
 is_leaf base stack k w x p q e i h =
     is_more base stack (leaf_of (k ∷ [])) x p q (leaf none k w) e i (a_leaf (one_kind k)) tt h
 
 -- Any token is taken.
-pub is_any : (base : Forest) (stack : List Forest) (k w : ℕ) (x : Contents) (p q : Spot) → q.forest ≡ leaf p.forest k w →
+pub is_any : (base : Forest) (stack : List Forest) (k w : ℕ) (x : Contents) (p q : Spot) →
+    q.forest ≡ leaf p.forest k w →
     q.below ≡ p.below → Is base stack x p → Is base stack (with_more any_leaf x) q
 is_any base stack k w x p q e i h = is_more base stack any_leaf x p q (leaf none k w) e i some_leaf tt h
 
@@ -128,7 +130,8 @@ node_holds k =
     no_error true e = refl
     no_error false e = absurd cc
 
-node_over : (base : Forest) (stack : List Forest) (k : ℕ) (b : Content) (os : List Content) (c g : Forest) (s : List Forest)
+node_over : (base : Forest) (stack : List Forest) (k : ℕ) (b : Content) (os : List Content) (c g : Forest)
+    (s : List Forest)
     (t : Bool) → (t ≡ true → Claimed k (children_of c)) → AllSo Claimed c → Stands base stack b os g s → (q : Spot) →
     q.forest ≡ node g k c → q.below ≡ s → Is base stack (closed_if t k b os) q
 node_over base stack k b os c g s true d a h q e i =
@@ -188,7 +191,8 @@ by_both None z ks e f = absurd cc
 by_both (Some is) None ks e f = absurd cc
 by_both (Some is) (Some js) ks e f = f is js refl refl cc
 
-last_so : (a : Content) (ks : List ℕ) (cs : List Child) → last_nodes a ≡ Some ks → Holds a cs → LastNode ks (before a) cs
+last_so : (a : Content) (ks : List ℕ) (cs : List Child) → last_nodes a ≡ Some ks → Holds a cs →
+    LastNode ks (before a) cs
 last_so nothing ks cs e s = absurd cc
 last_so (leaf_of is) ks cs e s = absurd cc
 last_so any_leaf ks cs e s = absurd cc
@@ -298,7 +302,8 @@ behind_part base stack ks a f s e h =
       rest = record { new = t.front; forest = refl; below = h.below; holds = t.holds; so = x.0 };
     }
 
-behind_node : (base : Forest) (stack : List Forest) (ks : List ℕ) (a c : Content) (os : List Content) (f : Forest) (b : List Forest)
+behind_node : (base : Forest) (stack : List Forest) (ks : List ℕ) (a c : Content) (os : List Content) (f : Forest)
+    (b : List Forest)
     (g : Forest) → last_nodes a ≡ Some ks → Stands base stack a (c ∷ os) f (g ∷ b) →
     Behind base stack ks (before a) (c ∷ os) f (g ∷ b)
 behind_node base stack ks a c os f b g e h =
@@ -315,7 +320,8 @@ behind_node base stack ks a c os f b g e h =
       rest = ((t.holds, x.0), h.1);
     }
 
-behind_so : (base : Forest) (stack : List Forest) (ks : List ℕ) (a : Content) (os : List Content) (f : Forest) (s : List Forest) →
+behind_so : (base : Forest) (stack : List Forest) (ks : List ℕ) (a : Content) (os : List Content) (f : Forest)
+    (s : List Forest) →
     last_nodes a ≡ Some ks → Stands base stack a os f s → Behind base stack ks (before a) os f s
 behind_so base stack ks a [] f s e h = behind_part base stack ks a f s e h
 behind_so base stack ks a (c ∷ os) f [] e h = absurd h
@@ -342,9 +348,11 @@ drawn_claimed kind b front inside e s d w =
     subst (λ (cs : List Child). IsWhole cs) (children-⧺ front inside) w in
     subst (λ (cs : List Child). Accepts (model kind) 0 cs) (sym (children-⧺ front inside))
     (back_so (model kind) b e (children_of front) (children_of inside) s
-    (whole_left (children_of front) (children_of inside) v) (d (whole_right (children_of front) (children_of inside) v)))
+    (whole_left (children_of front) (children_of inside) v) (d (whole_right (children_of front)
+    (children_of inside) v)))
 
-drawn_by : (base : Forest) (stack : List Forest) (ks : List ℕ) (b c : Content) (os : List Content) (t : Bool) (p : Spot) →
+drawn_by : (base : Forest) (stack : List Forest) (ks : List ℕ) (b c : Content) (os : List Content) (t : Bool)
+    (p : Spot) →
     every_one (λ k. comes_back (model k) b) ks ≡ t → (front : Forest) (kind : ℕ) (inside : Forest) →
     among ks kind ≡ true → Holds b (children_of front) → AllSo Claimed front → AllSo Claimed inside →
     Claimed kind (children_of inside) → Stands base stack c os (newest p.below) (drop 1 p.below) →
@@ -401,7 +409,8 @@ parted_so : (a : Content) (d : Bool) (c : Forest) → Holds a (children_of c) �
 parted_so a true c s x e = (x, float_claimed a c true e s)
 parted_so a false c s x e = ((tt, x, float_claimed a c false e s), outer_claimed a e)
 
-float_over : (base : Forest) (stack : List Forest) (a b : Content) (os : List Content) (d : Bool) (c g : Forest) (s : List Forest)
+float_over : (base : Forest) (stack : List Forest) (a b : Content) (os : List Content) (d : Bool) (c g : Forest)
+    (s : List Forest)
     (t : Bool) → float_runs a ≡ t → Holds a (children_of c) → AllSo Claimed c → Stands base stack b os g s →
     (q : Spot) → q.forest ≡ node g FIELD_EXPR (split_children c d) → q.below ≡ s →
     Is base stack (closed_if t FIELD_EXPR b os) q
