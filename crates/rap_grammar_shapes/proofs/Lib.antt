@@ -7,6 +7,7 @@ pub mod ContentLaws
 pub mod Ends
 pub mod EntryRules
 pub mod ExprRules
+pub mod Fits
 pub mod GenericRules
 pub mod ItemModels
 pub mod ItemRules

@@ -119,8 +119,8 @@ ref_expr_states =
 
 abbrev pub prefix_expr_states : List State
 prefix_expr_states =
-    state false (by_node attribute_kinds 0 ∷ by_token MINUS 1 ∷ by_any 2 ∷ []) ∷ state true (by_one LITERAL 3 ∷ []) ∷
-    state false (by_node expressions 3 ∷ []) ∷ state true [] ∷ []
+    state false (by_node attribute_kinds 0 ∷ by_token MINUS 1 ∷ by_any 2 ∷ []) ∷ state true (by_node expressions 3 ∷ [])
+    ∷ state false (by_node expressions 3 ∷ []) ∷ state true [] ∷ []
 
 abbrev pub call_expr_states : List State
 call_expr_states =

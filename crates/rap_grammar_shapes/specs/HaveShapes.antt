@@ -1,5 +1,5 @@
 -- Which children the nodes of a forest have.
-use Rattle.std.specs.Prelude.{◌≡◌, ◌⊎◌, ℕ, true, false}
+use Rattle.std.specs.Prelude.{◌≡◌, ◌⊎◌, ℕ, true, false, List}
 use Rattle.rap_base.specs.NodeKind.{SOURCE_FILE, MACRO_ITEMS, MACRO_STMTS}
 use Rattle.rap_base.specs.TokenKind.{ERROR}
 use Rattle.rap_events.specs.Forest.{Forest, none, node}
@@ -22,7 +22,7 @@ use Rattle.rap_grammar_scripts.specs.UseItem.{use_tree_list}
 use Rattle.rap_grammar_scripts.specs.Visibility.{opt_visibility}
 use Rattle.rap_grammar_scripts.specs.declared.arguments.Semicolon.TheVariants as semicolon
 use Rattle.rap_grammar_scripts.specs.declared.rule.Rule.{Rule}
-use Rattle.rap_grammar_table.specs.Shapes.{children_of, Spells}
+use Rattle.rap_grammar_table.specs.Shapes.{Child, children_of, shape, Spells}
 use Rattle.rap_grammar_shapes.specs.Shapes.{shape_of}
 use Rattle.rap_grammar_shapes.specs.Whole.{IsWhole}
 
@@ -39,6 +39,10 @@ abbrev pub HaveShapesWithin : Forest → Type 0
 HaveShapesWithin output =
     (place kind : ℕ) (children : Forest) → NodeAt output place kind children → IsWhole (children_of children) →
     (output ≡ node none ERROR children) ⊎ Spells (shape_of kind) (children_of children)
+
+-- What the rows of the table give a node of a kind, in a tree that they derive, is of the kind's shape too.
+abbrev pub RowsFit : Type 0
+RowsFit = (kind : ℕ) (children : List Child) → Spells (shape kind) children → Spells (shape_of kind) children
 
 -- What a script adds, however it runs, is so: if all nodes were so before, they are so at its end.
 abbrev pub KeepsShapes : Script Rule → Type 0

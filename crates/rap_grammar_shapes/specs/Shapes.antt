@@ -559,7 +559,7 @@ expression_shapes =
     -- a call of a macro as an expression
     ∷ (MACRO_EXPR has attributes ⋅ one MACRO_CALL)
     -- a sign before an expression
-    ∷ (PREFIX_EXPR has attributes ⋅ (token MINUS ⋅ opt (one LITERAL) or any_leaf ⋅ expression))
+    ∷ (PREFIX_EXPR has attributes ⋅ (token MINUS ⋅ opt expression or any_leaf ⋅ expression))
     -- a reference, or a raw pointer
     ∷ (REF_EXPR has
     attributes ⋅ token AMP ⋅
