@@ -1,6 +1,6 @@
 -- What the shapes say of some kinds is computed of them.
 use Rattle.std.proofs.Common.{◌≡◌, ◌==◌, ◌&&◌, inl, inr, ◌≤◌, arith, ℕ, Bool, true, false, List, [], ◌∷◌, ◌++◌, Option, Some, None, refl, sym, subst, ap}
-use Rattle.rap_base.specs.NodeKind.{BIN_EXPR, BLOCK_EXPR, FN, NAME}
+use Rattle.rap_base.specs.NodeKind.{BLOCK_EXPR, FN, NAME}
 use Rattle.rap_base.specs.TokenKind.{SEMICOLON}
 use Rattle.rap_events.proofs.Truth.{and_left, and_right}
 use Rattle.rap_grammar_table.specs.Counts.{AreBetween, IsAtMost, fewest, most, nodes_of}
