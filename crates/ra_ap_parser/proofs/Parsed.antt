@@ -22,6 +22,7 @@ use Rattle.rap_lexed.proofs.Covered.{answers-tree}
 use Rattle.rap_lexed.proofs.FewSteps.{few-tree}
 use Rattle.rap_lexed.proofs.Joined.{one-tree}
 use Rattle.rap_lexed.proofs.Records.{length-records}
+use Rattle.rap_text_nodes.proofs.Nodes.{text_nodes}
 use Rattle.ra_ap_parser.specs.Headline.{HasTooManyTokens, Headline, IsParsed, Leaves}
 use Rattle.ra_ap_parser.specs.declared.entry_point.TopEntryPoint.{TopEntryPoint}
 use Rattle.ra_ap_parser.specs.declared.whole_text.TextFault.{TextFault}
@@ -57,6 +58,9 @@ parsed text edition entry lexed input f small lexing e few tree made one tokens 
   made = subst (λ (rs : List Record). IsOutputOf entry rs f) e made;
   shapes = entry_shapes entry input f made;
   core = λ t h. core_tree entry (records lexed.tokens edition) (subst (λ (rs : List Record). IsOutputOf entry rs f) e made) h;
+  text_shapes =
+      text_nodes lexed.tokens edition f (subst (λ (rs : List Record). covers rs f ≡ true) e tree.forest.covers)
+      (entry_shapes entry input f made);
   str_one = one;
   few_whole =
       few_in_bytes text lexed.tokens (length (str_flat (with_trivia lexed.tokens f))) (length (flat f)) (length input) lexing.whole tokens count tree.forest.few

@@ -11,6 +11,7 @@ use Rattle.rap_lexed.specs.StrForest.{str_flat, str_joined, str_one_tree}
 use Rattle.rap_lexed.specs.StrSink.{Takes, Stops}
 use Rattle.rap_lexed.specs.StrStep.{StrStepValue}
 use Rattle.rap_lexed.specs.Trivia.{significant, with_trivia}
+use Rattle.rap_text_nodes.specs.TextNodes.{AreShaped}
 use Rattle.ra_ap_parser.specs.declared.entry_point.TopEntryPoint.{TopEntryPoint}
 use Rattle.ra_ap_parser.specs.declared.whole_text.TextFault.{TextFault}
 use Rattle.ra_ap_parser.specs.declared.whole_text.TextFault.TheVariants.{TextTooLong, TooManyTokens, NoMemory, Refused}
@@ -18,8 +19,8 @@ use Rattle.rap_base.specs.Limits.{max_tokens}
 
 -- The text's tokens; one tree over all those that are no trivia, in at most 256 steps for each and 256 more; that it is
 -- the entry's, that its nodes have the shapes of their kinds, and where the core grammar derives the tokens, that it is
--- their derivation's, without a message; and the same tree
--- with the trivia put back, which is one tree too, in at most 266 steps for each byte of the text and 266 more.
+-- their derivation's, without a message; and the same tree with the trivia put back, whose nodes come from those nodes,
+-- and which is one tree too, in at most 266 steps for each byte of the text and 266 more.
 pub record IsParsed (text : List ℕ) (edition : Edition) (entry : TopEntryPoint) (lexed : Lexed) (forest : Forest) : Type 0 where
   pub small : length text ≤ 4294967295
   pub lexing : IsLexing text edition lexed
@@ -31,6 +32,7 @@ pub record IsParsed (text : List ℕ) (edition : Edition) (entry : TopEntryPoint
   pub made : IsOutputOf entry (records lexed.tokens edition) forest
   pub shapes : HaveShapesWithin forest
   pub core : (tree : Forest) → IsCore entry (records lexed.tokens edition) tree → (forest ≡ tree) × (message_count forest ≡ 0)
+  pub text_shapes : AreShaped lexed.tokens forest
   pub str_one : str_one_tree (with_trivia lexed.tokens forest) ≡ true
   pub few_whole : length (str_flat (with_trivia lexed.tokens forest)) ≤ 266 * (length text + 1)
 

@@ -1,0 +1,3 @@
+pub mod LeafKinds
+pub mod Nodes
+pub mod Placed
