@@ -30,7 +30,7 @@ class Move(NamedTuple):
         return self.letter.form == ('node_of' if child.is_node else 'leaf_of') and number in self.letter.kinds
 
 
-class Shown:
+class Automata:
     """The automata of all kinds, with the names of their steps."""
 
     def __init__(self) -> None:
@@ -41,6 +41,8 @@ class Shown:
         self.sets = {frozenset(it): name for it, name in shapes.kind_sets().items() if len(it) > 1}
         self.automata = {self.names[kind]: automaton(shape) for kind, shape in shapes.by_kind.items()}
         self.words = {kind: list(self.words_of(states)) for kind, states in self.automata.items()}
+        # whether the children of a kind, as they are written, are of its shape
+        self.known: dict[tuple[str, ...], bool] = {}
 
     def written(self, letter: Letter) -> list[str]:
         """How a child is written: a list by its name, and else each kind."""
@@ -90,6 +92,13 @@ class Shown:
                 found |= set(self.names_of(kind, it, child))
             at = {it.at for it in taken}
         return found if at else None
+
+    def is_so(self, kind: str, children: list[Node]) -> bool:
+        """Whether children are of the shape of a kind."""
+        key = kind, *(f'{it.is_node:d}{it.kind}' for it in children)
+        if key not in self.known:
+            self.known[key] = self.steps(kind, children) is not None
+        return self.known[key]
 
     def names_of(self, kind: str, move: Move, child: Node) -> Iterator[str]:
         """The names of a step, and of the kind in its list if it has one."""

@@ -46,11 +46,11 @@ def file_texts(edition: str, files: list[str]) -> list[Text]:
     for file in files:
         if os.path.isfile(file):
             with open(file, 'rb') as data:
-                found.append(Text(os.path.relpath(file, TOP) if file.startswith(TOP) else file, edition, 'SourceFile',
-                                  data.read()))
+                found.append(Text(file.removeprefix(f'{TOP}/'), edition, 'SourceFile', data.read()))
     return found
 
 
 def data_files() -> list[str]:
     """The files in Rust that the programs are tried with, and those of the packages."""
-    return sorted([*glob.glob(f'{TOP}/crates/*/data/*.rs'), *glob.glob(f'{TOP}/bindings/*/src/**/*.rs', recursive=True)])
+    names = 'crates/*/data/*.rs', 'bindings/*/src/**/*.rs'
+    return sorted(file for it in names for file in glob.glob(f'{TOP}/{it}', recursive=True))
