@@ -1,10 +1,11 @@
 """Where trees come from: `rast`, the static library called from C, and the package for Python."""
 import concurrent.futures
+import itertools
 import os
 import subprocess
 import sys
 import tempfile
-from collections.abc import Iterator
+from collections.abc import Iterable, Iterator
 from typing import Any, Optional
 
 from support import TOP
@@ -12,14 +13,19 @@ from support.exports import compile_test
 from support.sample import TOPS
 from support.shape_trees import TRIVIA, Node, Text, Tree, read_tree, tree_by_rast
 
+# How many texts are read at a time.
+AT_ONCE = 1000
+
 # Each text with its tree, or with none if the parser makes none.
 Trees = Iterator[tuple[Text, Optional[Tree]]]
 
 
-def by_rast(texts: list[Text]) -> Trees:
+def by_rast(texts: Iterable[Text]) -> Trees:
     """The trees that `rast` prints."""
+    given = iter(texts)
     with concurrent.futures.ThreadPoolExecutor(len(os.sched_getaffinity(0))) as pool:
-        yield from zip(texts, pool.map(tree_by_rast, texts))
+        while some := list(itertools.islice(given, AT_ONCE)):
+            yield from zip(some, pool.map(tree_by_rast, some))
 
 
 def by_c(texts: list[Text]) -> Trees:
