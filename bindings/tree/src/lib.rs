@@ -49,6 +49,7 @@
 //! by bisection and such a climb.
 #![deny(missing_docs)]
 
+pub mod ast;
 mod iterators;
 mod line_index;
 mod message;
