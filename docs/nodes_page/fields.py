@@ -26,7 +26,7 @@ class FieldWriter:
         for it in node.nodes:
             yield f'{INDENT}{it.name:{WHAT}}{it.what:{COUNT - WHAT}}{self.count(node, it)}'
         for count in ('one', 'at most one'):
-            tokens = [self.token(it) for it in node.tokens if it.count == count]
+            tokens = [self.token(it) for it in node.tokens if it.amount == count]
             yield from self.listed(f'tokens, {count}:', tokens)
         yield from self.listed('of no field:', self.views.kind_names(self.lost(node)))
 
@@ -34,7 +34,7 @@ class FieldWriter:
         """How many a field has, and whether the shape takes more."""
         more = ', the first of any number' if field.most is None else f', the first of {field.most}'
         places = [f', {PLACES[it.word]} {it.field}' for it in field.places]
-        return field.count + (more if field.is_wide(node.fields) else '') + ''.join(places)
+        return field.amount + (more if field.is_wide(node.fields) else '') + ''.join(places)
 
     def token(self, field: Field) -> str:
         """A token's field; with its kinds where these are not its name."""

@@ -37,7 +37,7 @@ class Field(NamedTuple):
         return is_one_of_several and not any(place.field == self.name for it in fields for place in it.places)
 
     @property
-    def count(self) -> str:
+    def amount(self) -> str:
         """How many it has, in words."""
         return 'any number' if self.is_list else 'one' if self.fewest else 'at most one'
 

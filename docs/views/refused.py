@@ -44,15 +44,15 @@ class Judge:
         """Children that two fields find, of which no line says so; and lines of such children that say too much."""
         said = {frozenset(names): kinds for (kind, *names), kinds in self.views.said.twice.items()
                 if kind == self.node.kind}
-        unseen = {(names, kind) for names, kinds in said.items() for kind in kinds}
+        unseen = {(both, kind) for both, kinds in said.items() for kind in kinds}
         for word in sorted(self.words):
             for kind, names in zip(word, self.found_by(word, self.fields)):
                 unseen.discard((frozenset(names), kind))
                 if len(names) > 1 and kind not in said.get(frozenset(names), ()):
                     yield f'{" and ".join(names)} find one child, {self.named([kind])}, in {self.written(word)}'
                     return
-        for names, kind in unseen:
-            yield f'{" and ".join(sorted(names))} never find one {self.named([kind])}'
+        for both, kind in sorted(unseen, key=lambda it: it[1]):
+            yield f'{" and ".join(sorted(both))} never find one {self.named([kind])}'
 
     def not_found(self) -> Iterator[str]:
         """Nodes that no field finds, and kinds of such nodes in a line that fields find."""

@@ -1,4 +1,5 @@
-"""bindings/tree/src/ast/generated.rs: the sets, the traits and the kinds of nodes with their fields."""
+"""bindings/tree/src/ast/generated.rs: the sets, the traits and the kinds of nodes with their fields; and the list of
+all fields for the tests of the package."""
 import textwrap
 from typing import Iterator
 
@@ -94,7 +95,7 @@ class Writer:
     def node(self, node: Node) -> Iterator[str]:
         of_traits = {field for it in node.traits for field in self.views.said.traits[it]}
         yield f'node! {{ {node.camel} {node.name} "{self.said[node.name]}":'
-        words = [f'{COUNTS[it.count]} {it.name}{self.rule(it)}' for it in node.fields if it.name not in of_traits]
+        words = [f'{COUNTS[it.amount]} {it.name}{self.rule(it)}' for it in node.fields if it.name not in of_traits]
         yield from wrapped(words)
         yield '}'
         for trait in node.traits:
@@ -115,6 +116,15 @@ class Writer:
         else:
             found = f'support::all(self.0){end}'
         return ['    #[inline]', f"    fn {field.name}(self) -> Option<{view}<'t>> {{", f'        {found}', '    }']
+
+
+def tested(views: Views, _: dict[str, str]) -> list[str]:
+    """The lines of the list for the tests: of each kind its fields in their order, those of tokens in brackets."""
+    found = ['// The fields of all kinds of nodes, in their order.', '', 'fields! {']
+    for node in views.nodes:
+        words = [f'{COUNTS[it.amount]} {f"[{it.name}]" if it.is_token else it.name}' for it in node.fields]
+        found += [f'    {node.camel} {node.name}:', *(f'    {it}' for it in wrapped(words)), '    ;']
+    return [*found, '}']
 
 
 def lines(views: Views, said: dict[str, str]) -> list[str]:

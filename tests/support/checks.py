@@ -8,9 +8,9 @@ from typing import NamedTuple
 from support import TOP
 
 # What holds the documents to the files, the pages of the grammar and the list of scripts to the scripts, and the lists
-# of kinds, of fields, of recursive rules, of rows and of shapes to their tables; the tests of the grammar's page, of the
-# count of the core grammar and of what a list of fields may not say; the checkers of the scripts in Python and of the
-# shell; and what holds the header to the last release.
+# of kinds, of fields, of recursive rules, of rows and of shapes to their tables; the tests of the grammar's page, of
+# the count of the core grammar and of what a list of fields may not say; the checkers of the scripts in Python and of
+# the shell; and what holds the header to the last release.
 CHECKS = [['docs/check'], ['docs/grammar', '--check'], ['docs/core', '--check'], ['docs/nodes', '--check'],
           ['docs/believed', '--check'], ['crates/rap_base/kinds', '--check'], ['crates/rap_base/fields', '--check'],
           ['crates/rap_grammar_scripts/rules', '--check'], ['crates/rap_grammar_scripts/all_scripts', '--check'],

@@ -93,8 +93,10 @@ class Elements:
 
     def element(self, index: int) -> Element:
         """The node or token with this index. What has nothing in it is a token, or an empty node."""
-        _, start, end, after, _ = self.words[5 * index:5 * index + 5]
-        return Token(self, index) if after == index + 1 and start < end else self.node(index)
+        kind, start, end, after, _ = self.words[5 * index:5 * index + 5]
+        if after == index + 1 and start < end:
+            return Token(self, index)
+        return CLASSES.get(kind, Node)(self, index) if CLASSES else Node(self, index)
 
     def node(self, index: int) -> Node:
         """The node with this index, of the class of its kind where `rap.ast` is imported."""

@@ -43,11 +43,16 @@ class Rule:
 
     def _one(self, node: Node) -> Element | None:
         """The child that is found."""
-        found: int | None = None
-        for found in self._indices(node):
-            if not self._is_last:
-                break
-        return None if found is None else node._of.element(found)
+        words, kinds, found = node._of.words, self._kinds, 0
+        at, end = self._bounds(node)
+        while at < end:
+            if words[5 * at] in kinds:
+                found = at
+                if not self._is_last:
+                    break
+            at = words[5 * at + 3]
+        # No child has the index 0.
+        return node._of.element(found) if found else None
 
 
 class Child(Rule, Generic[N]):
@@ -103,4 +108,4 @@ def of(node: Node) -> Node:
 def walk(node: Element, view: type[N]) -> Iterator[N]:
     """All nodes in a node that are of a class, in preorder, without itself."""
     kinds = [Kind(kind) for kind, its in CLASSES.items() if issubclass(its, view)]
-    return (cast('N', it) for it in node.descendants(kinds) if isinstance(it, view))
+    return (it for it in node.descendants(kinds) if isinstance(it, view))
