@@ -375,8 +375,8 @@ static const uint32_t rap_field_sets[][11] = {
     {0xa0000000, 0, 0, 0, 0, 0, 0, 0, 0, 0, 0},
     {0x147f0600, 0x1fffea, 0, 0, 0, 0, 0, 0, 0, 0, 0},
     {0x10000, 0, 0, 0, 0, 0, 0, 0, 0, 0, 0},
-    {0, 0, 0x100, 0, 0, 0, 0, 0, 0, 0, 0},
     {0, 0, 0, 0, 0x80, 0, 0, 0, 0, 0, 0},
+    {0, 0, 0x100, 0, 0, 0, 0, 0, 0, 0, 0},
     {0x18080000, 0, 0, 0, 0, 0, 0, 0, 0, 0, 0},
     {0, 0, 0, 0, 0, 0, 0x1, 0, 0, 0, 0},
     {0x80, 0, 0, 0, 0, 0, 0, 0, 0, 0, 0},
@@ -645,8 +645,8 @@ static const struct rap_field_row rap_field_rows[] = {
     {49, 1, 0, 2, 0, 0, 255}, /* doc_comments */
     {60, 7, 0, 0, 0, 1, 1}, /* expr */
     {2, 62, 0, 0, 0, 1, 1}, /* amp_token */
-    {123, 63, 0, 0, 0, 0, 1}, /* mut_token */
-    {155, 64, 0, 0, 0, 0, 1}, /* raw_token */
+    {155, 63, 0, 0, 0, 0, 1}, /* raw_token */
+    {123, 64, 0, 0, 0, 0, 1}, /* mut_token */
     {41, 56, 0, 0, 0, 0, 1}, /* const_token */
     /* PREFIX_EXPR */
     {19, 0, 0, 2, 0, 0, 255}, /* attrs */
@@ -765,8 +765,8 @@ static const struct rap_field_row rap_field_rows[] = {
     {49, 1, 0, 2, 0, 0, 255}, /* doc_comments */
     {69, 78, 0, 0, 0, 0, 1}, /* for_binder */
     {135, 79, 0, 0, 0, 1, 1}, /* param_list */
-    {26, 7, 0, 0, 0, 1, 1}, /* body */
     {165, 34, 0, 0, 0, 0, 1}, /* ret_type */
+    {26, 7, 0, 0, 0, 1, 1}, /* body */
     {41, 56, 0, 0, 0, 0, 1}, /* const_token */
     {181, 80, 0, 0, 0, 0, 1}, /* static_token */
     {16, 54, 0, 0, 0, 0, 1}, /* async_token */
@@ -939,7 +939,7 @@ static const struct rap_field_row rap_field_rows[] = {
     {129, 119, 0, 0, 0, 0, 1}, /* nostack_token */
     {146, 120, 0, 0, 0, 0, 1}, /* preserves_flags_token */
     {148, 121, 0, 0, 0, 0, 1}, /* pure_token */
-    {155, 64, 0, 0, 0, 0, 1}, /* raw_token */
+    {155, 63, 0, 0, 0, 0, 1}, /* raw_token */
     {156, 122, 0, 0, 0, 0, 1}, /* readonly_token */
     /* ASM_DIR_SPEC */
     {85, 18, 0, 0, 0, 0, 1}, /* in_token */
@@ -1025,7 +1025,7 @@ static const struct rap_field_row rap_field_rows[] = {
     {83, 143, 0, 0, 0, 1, 1}, /* impl_token */
     /* MUT_RESTRICTION */
     {216, 15, 0, 0, 0, 1, 1}, /* visibility_inner */
-    {123, 63, 0, 0, 0, 1, 1}, /* mut_token */
+    {123, 64, 0, 0, 0, 1, 1}, /* mut_token */
     /* TYPE_ALIAS */
     {19, 0, 0, 2, 0, 0, 255}, /* attrs */
     {49, 1, 0, 2, 0, 0, 255}, /* doc_comments */
@@ -1174,7 +1174,7 @@ static const struct rap_field_row rap_field_rows[] = {
     {20, 140, 0, 0, 0, 0, 1}, /* auto_token */
     {44, 141, 0, 0, 0, 0, 1}, /* default_token */
     {204, 147, 0, 0, 0, 0, 1}, /* type_token */
-    {123, 63, 0, 0, 0, 0, 1}, /* mut_token */
+    {123, 64, 0, 0, 0, 0, 1}, /* mut_token */
     {205, 22, 0, 0, 0, 0, 1}, /* underscore_token */
     {36, 42, 0, 0, 0, 1, 1}, /* colon_token */
     {58, 43, 0, 0, 0, 0, 1}, /* eq_token */
@@ -1197,7 +1197,7 @@ static const struct rap_field_row rap_field_rows[] = {
     {20, 140, 0, 0, 0, 0, 1}, /* auto_token */
     {44, 141, 0, 0, 0, 0, 1}, /* default_token */
     {181, 80, 0, 0, 0, 1, 1}, /* static_token */
-    {123, 63, 0, 0, 0, 0, 1}, /* mut_token */
+    {123, 64, 0, 0, 0, 0, 1}, /* mut_token */
     {36, 42, 0, 0, 0, 1, 1}, /* colon_token */
     {58, 43, 0, 0, 0, 0, 1}, /* eq_token */
     {175, 44, 0, 0, 0, 1, 1}, /* semicolon_token */
@@ -1258,8 +1258,8 @@ static const struct rap_field_row rap_field_rows[] = {
     {209, 166, 0, 0, 0, 1, 1}, /* use_token */
     {175, 44, 0, 0, 0, 1, 1}, /* semicolon_token */
     /* USE_TREE */
-    {211, 167, 0, 0, 0, 0, 1}, /* use_tree_list */
     {139, 2, 0, 0, 0, 0, 1}, /* path */
+    {211, 167, 0, 0, 0, 0, 1}, /* use_tree_list */
     {162, 135, 0, 0, 0, 0, 1}, /* rename */
     {37, 28, 0, 0, 0, 0, 1}, /* coloncolon_token */
     {178, 168, 0, 0, 0, 0, 1}, /* star_token */
@@ -1278,19 +1278,19 @@ static const struct rap_field_row rap_field_rows[] = {
     /* PARAM */
     {19, 0, 0, 2, 0, 0, 255}, /* attrs */
     {49, 1, 0, 2, 0, 0, 255}, /* doc_comments */
-    {200, 25, 0, 0, 0, 0, 1}, /* ty */
     {138, 39, 0, 0, 0, 0, 1}, /* pat */
-    {52, 172, 0, 0, 0, 0, 1}, /* dotdotdot_token */
+    {200, 25, 0, 0, 0, 0, 1}, /* ty */
     {36, 42, 0, 0, 0, 0, 1}, /* colon_token */
+    {52, 172, 0, 0, 0, 0, 1}, /* dotdotdot_token */
     /* SELF_PARAM */
     {19, 0, 0, 2, 0, 0, 255}, /* attrs */
     {49, 1, 0, 2, 0, 0, 255}, /* doc_comments */
+    {106, 57, 0, 0, 0, 0, 1}, /* lifetime */
     {125, 20, 0, 0, 0, 1, 1}, /* name */
     {200, 25, 0, 0, 0, 0, 1}, /* ty */
-    {106, 57, 0, 0, 0, 0, 1}, /* lifetime */
-    {123, 63, 0, 0, 0, 0, 1}, /* mut_token */
-    {36, 42, 0, 0, 0, 0, 1}, /* colon_token */
     {2, 62, 0, 0, 0, 0, 1}, /* amp_token */
+    {123, 64, 0, 0, 0, 0, 1}, /* mut_token */
+    {36, 42, 0, 0, 0, 0, 1}, /* colon_token */
     /* OR_PAT */
     {141, 39, 0, 2, 0, 1, 255}, /* pats */
     /* RANGE_PAT */
@@ -1335,8 +1335,8 @@ static const struct rap_field_row rap_field_rows[] = {
     /* RECORD_PAT_FIELD */
     {19, 0, 0, 2, 0, 0, 255}, /* attrs */
     {49, 1, 0, 2, 0, 0, 255}, /* doc_comments */
-    {138, 39, 0, 0, 0, 1, 1}, /* pat */
     {126, 30, 0, 0, 0, 0, 1}, /* name_ref */
+    {138, 39, 0, 0, 0, 1, 1}, /* pat */
     {36, 42, 0, 0, 0, 0, 1}, /* colon_token */
     /* MACRO_PAT */
     {111, 76, 0, 0, 0, 1, 1}, /* macro_call */
@@ -1347,7 +1347,7 @@ static const struct rap_field_row rap_field_rows[] = {
     /* REF_PAT */
     {138, 39, 0, 0, 0, 1, 1}, /* pat */
     {2, 62, 0, 0, 0, 1, 1}, /* amp_token */
-    {123, 63, 0, 0, 0, 0, 1}, /* mut_token */
+    {123, 64, 0, 0, 0, 0, 1}, /* mut_token */
     /* NOT_NULL */
     {138, 39, 0, 0, 0, 1, 1}, /* pat */
     {59, 75, 0, 0, 0, 1, 1}, /* excl_token */
@@ -1367,7 +1367,7 @@ static const struct rap_field_row rap_field_rows[] = {
     {125, 20, 0, 0, 0, 1, 1}, /* name */
     {138, 39, 0, 0, 0, 0, 1}, /* pat */
     {161, 180, 0, 0, 0, 0, 1}, /* ref_token */
-    {123, 63, 0, 0, 0, 0, 1}, /* mut_token */
+    {123, 64, 0, 0, 0, 0, 1}, /* mut_token */
     {17, 181, 0, 0, 0, 0, 1}, /* at_token */
     /* BOX_PAT */
     {138, 39, 0, 0, 0, 1, 1}, /* pat */
@@ -1389,7 +1389,7 @@ static const struct rap_field_row rap_field_rows[] = {
     {200, 25, 0, 0, 0, 1, 1}, /* ty */
     {178, 168, 0, 0, 0, 1, 1}, /* star_token */
     {41, 56, 0, 0, 0, 0, 0}, /* const_token */
-    {123, 63, 0, 0, 0, 0, 0}, /* mut_token */
+    {123, 64, 0, 0, 0, 0, 0}, /* mut_token */
     /* SLICE_TYPE */
     {200, 25, 0, 0, 0, 1, 1}, /* ty */
     {97, 67, 0, 0, 0, 1, 1}, /* l_brack_token */
@@ -1404,7 +1404,7 @@ static const struct rap_field_row rap_field_rows[] = {
     {106, 57, 0, 0, 0, 0, 1}, /* lifetime */
     {200, 25, 0, 0, 0, 1, 1}, /* ty */
     {2, 62, 0, 0, 0, 1, 1}, /* amp_token */
-    {123, 63, 0, 0, 0, 0, 1}, /* mut_token */
+    {123, 64, 0, 0, 0, 0, 1}, /* mut_token */
     /* INFER_TYPE */
     {205, 22, 0, 0, 0, 1, 1}, /* underscore_token */
     /* FN_PTR_TYPE */
@@ -1443,23 +1443,23 @@ static const struct rap_field_row rap_field_rows[] = {
     {208, 186, 0, 0, 0, 0, 1}, /* use_bound_generic_args */
     {69, 78, 0, 0, 0, 0, 1}, /* for_binder */
     {200, 25, 0, 0, 0, 0, 1}, /* ty */
+    {99, 17, 0, 0, 0, 0, 1}, /* l_paren_token */
     {209, 166, 0, 0, 0, 0, 1}, /* use_token */
-    {41, 56, 0, 0, 0, 0, 1}, /* const_token */
     {97, 67, 0, 0, 0, 0, 1}, /* l_brack_token */
-    {152, 68, 0, 0, 0, 0, 1}, /* r_brack_token */
     {191, 187, 0, 0, 0, 0, 1}, /* tilde_token */
+    {41, 56, 0, 0, 0, 0, 1}, /* const_token */
+    {152, 68, 0, 0, 0, 0, 1}, /* r_brack_token */
     {16, 54, 0, 0, 0, 0, 1}, /* async_token */
     {150, 71, 0, 0, 0, 0, 1}, /* question_mark_token */
-    {99, 17, 0, 0, 0, 0, 1}, /* l_paren_token */
     {154, 19, 0, 0, 0, 0, 1}, /* r_paren_token */
     /* TYPE_BOUND_LIST */
     {27, 188, 0, 2, 0, 0, 255}, /* bounds */
     {69, 78, 0, 0, 0, 0, 1}, /* for_binder */
     {99, 17, 0, 0, 0, 0, 1}, /* l_paren_token */
-    {41, 56, 0, 0, 0, 0, 1}, /* const_token */
     {97, 67, 0, 0, 0, 0, 1}, /* l_brack_token */
-    {152, 68, 0, 0, 0, 0, 1}, /* r_brack_token */
     {191, 187, 0, 0, 0, 0, 1}, /* tilde_token */
+    {41, 56, 0, 0, 0, 0, 1}, /* const_token */
+    {152, 68, 0, 0, 0, 0, 1}, /* r_brack_token */
     {16, 54, 0, 0, 0, 0, 1}, /* async_token */
     {150, 71, 0, 0, 0, 0, 1}, /* question_mark_token */
     /* GENERIC_ARG_LIST */

@@ -128,15 +128,31 @@ class Maker:
     def fields(self) -> list[Field]:
         """All of them: first those of nodes, in the order of the shape."""
         said = [*self.said, *self.of_letters()]
-        first = {it: at for at, letter in reversed(list(enumerate(self.letters))) for it in letter.kinds}
-        made = [self.field(it, it in self.said) for it in said]
-        order = [min((first[kind] for kind in it.kinds if kind in first), default=len(first)) for it in made]
-        ordered = [it for _, _, it in sorted(zip(order, range(len(made)), made), key=lambda it: it[:2])]
-        fields = sorted(ordered, key=lambda it: it.is_token)
+        fields = sorted(self.ordered([self.field(it, it in self.said) for it in said]), key=lambda it: it.is_token)
         names = [it.name for it in fields]
         if len(set(names)) < len(names):
             self.stop(f'two fields of one name: {sorted(it for it in names if names.count(it) > 1)}')
         return [self.counted(fields, it) for it in fields]
+
+    def ordered(self, fields: list[Field]) -> list[Field]:
+        """Fields in the order of the text: one stands before another if it may and the other may not."""
+        first = {it: at for at, letter in reversed(list(enumerate(self.letters))) for it in letter.kinds}
+        none = len(self.letters)
+        rest = sorted(fields, key=lambda it: min(first.get(kind, none) for kind in it.kinds))
+        later = paths.behind(self.states)
+        steps = [(at, set(letter.kinds), target) for at, it in enumerate(self.states) for letter, target in it.steps]
+
+        def may_precede(one: Field, other: Field) -> bool:
+            after = {it for _, kinds, target in steps if kinds & one.kinds for it in later[target]}
+            return any(at in after and kinds & other.kinds for at, kinds, _ in steps)
+
+        found: list[Field] = []
+        while rest:
+            free = [it for it in rest if not any(may_precede(other, it) and not may_precede(it, other)
+                                                 for other in rest)]
+            found.append((free or rest)[0])
+            rest.remove(found[-1])
+        return found
 
     def field(self, said: Said, is_said: bool) -> Field:
         weight = paths.Kinds(said.kinds, self.views.name_ref)

@@ -69,6 +69,16 @@ def repeats(states: list[State], form: str) -> bool:
     return most(states, lambda it: int(it.form == form)) is None
 
 
+def behind(states: list[State]) -> list[set[int]]:
+    """The states that may be met from each one on, itself among them."""
+    found = [{at, *(target for _, target in state.steps)} for at, state in enumerate(states)]
+    while True:
+        more = [its.union(*(found[it] for it in its)) for its in found]
+        if more == found:
+            return found
+        found = more
+
+
 Word = tuple[int, ...]
 
 

@@ -499,8 +499,8 @@ class RefExpr(Expr):
     doc_comments: _Children[DocComment] = _Children((Kind.DOC_COMMENT,))
     expr: _Child[Expr] = _Child(_EXPR)
     amp_token: _Leaf = _Leaf((Kind.AMP,))
-    mut_token: _Leaf = _Leaf((Kind.MUT_KW,))
     raw_token: _Leaf = _Leaf((Kind.RAW_KW,))
+    mut_token: _Leaf = _Leaf((Kind.MUT_KW,))
     const_token: _Leaf = _Leaf((Kind.CONST_KW,))
 
 
@@ -762,14 +762,14 @@ class ClosureExpr(Expr):
     """`CLOSURE_EXPR`: a closure."""
 
     __slots__ = ()
-    _fields = ('attrs', 'doc_comments', 'for_binder', 'param_list', 'body', 'ret_type')
-    __match_args__ = ('for_binder', 'param_list', 'body', 'ret_type')
+    _fields = ('attrs', 'doc_comments', 'for_binder', 'param_list', 'ret_type', 'body')
+    __match_args__ = ('for_binder', 'param_list', 'ret_type', 'body')
     attrs: _Children[Attr] = _Children((Kind.ATTR,))
     doc_comments: _Children[DocComment] = _Children((Kind.DOC_COMMENT,))
     for_binder: _Child[ForBinder] = _Child((Kind.FOR_BINDER,))
     param_list: _Child[ParamList] = _Child((Kind.PARAM_LIST,))
-    body: _Child[Expr] = _Child(_EXPR)
     ret_type: _Child[RetType] = _Child((Kind.RET_TYPE,))
+    body: _Child[Expr] = _Child(_EXPR)
     const_token: _Leaf = _Leaf((Kind.CONST_KW,))
     static_token: _Leaf = _Leaf((Kind.STATIC_KW,))
     async_token: _Leaf = _Leaf((Kind.ASYNC_KW,))
@@ -1689,10 +1689,10 @@ class UseTree(Node):
     """`USE_TREE`: a path of an import, `*` or a list behind a path."""
 
     __slots__ = ()
-    _fields = ('use_tree_list', 'path', 'rename')
-    __match_args__ = ('use_tree_list', 'path', 'rename')
-    use_tree_list: _Child[UseTreeList] = _Child((Kind.USE_TREE_LIST,))
+    _fields = ('path', 'use_tree_list', 'rename')
+    __match_args__ = ('path', 'use_tree_list', 'rename')
     path: _Child[Path] = _Child((Kind.PATH,))
+    use_tree_list: _Child[UseTreeList] = _Child((Kind.USE_TREE_LIST,))
     rename: _Child[Rename] = _Child((Kind.RENAME,))
     coloncolon_token: _Leaf = _Leaf((Kind.COLON2,))
     star_token: _Leaf = _Leaf((Kind.STAR,))
@@ -1728,30 +1728,30 @@ class Param(Node):
     """`PARAM`: a parameter: a pattern with its type, one of them alone, or `...`."""
 
     __slots__ = ()
-    _fields = ('attrs', 'doc_comments', 'ty', 'pat')
-    __match_args__ = ('ty', 'pat')
+    _fields = ('attrs', 'doc_comments', 'pat', 'ty')
+    __match_args__ = ('pat', 'ty')
     attrs: _Children[Attr] = _Children((Kind.ATTR,))
     doc_comments: _Children[DocComment] = _Children((Kind.DOC_COMMENT,))
-    ty: _Child[Type] = _Child(_TYPE)
     pat: _Child[Pat] = _Child(_PAT)
-    dotdotdot_token: _Leaf = _Leaf((Kind.DOT3,))
+    ty: _Child[Type] = _Child(_TYPE)
     colon_token: _Leaf = _Leaf((Kind.COLON,))
+    dotdotdot_token: _Leaf = _Leaf((Kind.DOT3,))
 
 
 class SelfParam(Node):
     """`SELF_PARAM`: `self` as a parameter."""
 
     __slots__ = ()
-    _fields = ('attrs', 'doc_comments', 'name', 'ty', 'lifetime')
-    __match_args__ = ('name', 'ty', 'lifetime')
+    _fields = ('attrs', 'doc_comments', 'lifetime', 'name', 'ty')
+    __match_args__ = ('lifetime', 'name', 'ty')
     attrs: _Children[Attr] = _Children((Kind.ATTR,))
     doc_comments: _Children[DocComment] = _Children((Kind.DOC_COMMENT,))
+    lifetime: _Child[Lifetime] = _Child((Kind.LIFETIME,))
     name: _Child[Name] = _Child((Kind.NAME,))
     ty: _Child[Type] = _Child(_TYPE)
-    lifetime: _Child[Lifetime] = _Child((Kind.LIFETIME,))
+    amp_token: _Leaf = _Leaf((Kind.AMP,))
     mut_token: _Leaf = _Leaf((Kind.MUT_KW,))
     colon_token: _Leaf = _Leaf((Kind.COLON,))
-    amp_token: _Leaf = _Leaf((Kind.AMP,))
 
 
 class OrPat(Pat):
@@ -1862,12 +1862,12 @@ class RecordPatField(Node):
     """`RECORD_PAT_FIELD`: a field with its pattern, or its name alone."""
 
     __slots__ = ()
-    _fields = ('attrs', 'doc_comments', 'pat', 'name_ref')
-    __match_args__ = ('pat', 'name_ref')
+    _fields = ('attrs', 'doc_comments', 'name_ref', 'pat')
+    __match_args__ = ('name_ref', 'pat')
     attrs: _Children[Attr] = _Children((Kind.ATTR,))
     doc_comments: _Children[DocComment] = _Children((Kind.DOC_COMMENT,))
-    pat: _Child[Pat] = _Child(_PAT)
     name_ref: _Child[NameRef] = _Child((Kind.NAME_REF,))
+    pat: _Child[Pat] = _Child(_PAT)
     colon_token: _Leaf = _Leaf((Kind.COLON,))
 
 
@@ -2170,14 +2170,14 @@ class TypeBound(Node):
     use_bound_generic_args: _Child[UseBoundGenericArgs] = _Child((Kind.USE_BOUND_GENERIC_ARGS,))
     for_binder: _Child[ForBinder] = _Child((Kind.FOR_BINDER,))
     ty: _Child[Type] = _Child(_TYPE)
+    l_paren_token: _Leaf = _Leaf((Kind.L_PAREN,))
     use_token: _Leaf = _Leaf((Kind.USE_KW,))
-    const_token: _Leaf = _Leaf((Kind.CONST_KW,))
     l_brack_token: _Leaf = _Leaf((Kind.L_BRACK,))
-    r_brack_token: _Leaf = _Leaf((Kind.R_BRACK,))
     tilde_token: _Leaf = _Leaf((Kind.TILDE,))
+    const_token: _Leaf = _Leaf((Kind.CONST_KW,))
+    r_brack_token: _Leaf = _Leaf((Kind.R_BRACK,))
     async_token: _Leaf = _Leaf((Kind.ASYNC_KW,))
     question_mark_token: _Leaf = _Leaf((Kind.QUESTION,))
-    l_paren_token: _Leaf = _Leaf((Kind.L_PAREN,))
     r_paren_token: _Leaf = _Leaf((Kind.R_PAREN,))
 
 
@@ -2190,10 +2190,10 @@ class TypeBoundList(Node):
     bounds: _Children[TypeBound] = _Children((Kind.TYPE_BOUND,))
     for_binder: _Child[ForBinder] = _Child((Kind.FOR_BINDER,))
     l_paren_token: _Leaf = _Leaf((Kind.L_PAREN,))
-    const_token: _Leaf = _Leaf((Kind.CONST_KW,))
     l_brack_token: _Leaf = _Leaf((Kind.L_BRACK,))
-    r_brack_token: _Leaf = _Leaf((Kind.R_BRACK,))
     tilde_token: _Leaf = _Leaf((Kind.TILDE,))
+    const_token: _Leaf = _Leaf((Kind.CONST_KW,))
+    r_brack_token: _Leaf = _Leaf((Kind.R_BRACK,))
     async_token: _Leaf = _Leaf((Kind.ASYNC_KW,))
     question_mark_token: _Leaf = _Leaf((Kind.QUESTION,))
 

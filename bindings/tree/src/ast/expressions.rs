@@ -27,7 +27,16 @@ pub enum LiteralKind<'t> {
 }
 
 impl<'t> Literal<'t> {
-    /// What it is: [`LiteralKind`] has an example.
+    /// What it is.
+    ///
+    /// ```
+    /// use rap_tree::ast::{AstNode, AstToken, Literal, LiteralKind};
+    /// use rap_tree::{Edition, TopEntryPoint, Tree};
+    ///
+    /// let tree = Tree::of_text(Edition::CURRENT, TopEntryPoint::Expr, "0x10u8");
+    /// let kind = Literal::cast(tree.root()).unwrap().kind();
+    /// assert!(matches!(kind, Some(LiteralKind::IntNumber(it)) if it.text() == "0x10u8"));
+    /// ```
     #[must_use]
     pub fn kind(self) -> Option<LiteralKind<'t>> {
         let token = self.token()?;
@@ -67,7 +76,16 @@ pub enum BlockModifier<'t> {
 }
 
 impl<'t> BlockExpr<'t> {
-    /// What stands before it: [`BlockModifier`] has an example.
+    /// What stands before it.
+    ///
+    /// ```
+    /// use rap_tree::ast::{AstNode, BlockExpr, BlockModifier};
+    /// use rap_tree::{Edition, TopEntryPoint, Tree};
+    ///
+    /// let tree = Tree::of_text(Edition::CURRENT, TopEntryPoint::Expr, "'a: {}");
+    /// let modifier = BlockExpr::cast(tree.root()).unwrap().modifier();
+    /// assert!(matches!(modifier, Some(BlockModifier::Label(it)) if it.to_string() == "'a:"));
+    /// ```
     #[must_use]
     pub fn modifier(self) -> Option<BlockModifier<'t>> {
         match (self.async_token(), self.gen_token()) {
@@ -107,7 +125,16 @@ pub enum ArrayExprKind<'t> {
 }
 
 impl<'t> ArrayExpr<'t> {
-    /// How it is written: [`ArrayExprKind`] has an example.
+    /// How it is written.
+    ///
+    /// ```
+    /// use rap_tree::ast::{ArrayExpr, ArrayExprKind, AstNode};
+    /// use rap_tree::{Edition, TopEntryPoint, Tree};
+    ///
+    /// let tree = Tree::of_text(Edition::CURRENT, TopEntryPoint::Expr, "[1, 2]");
+    /// let kind = ArrayExpr::cast(tree.root()).unwrap().kind();
+    /// assert!(matches!(kind, ArrayExprKind::ElementList(its) if its.clone().count() == 2));
+    /// ```
     #[must_use]
     pub fn kind(self) -> ArrayExprKind<'t> {
         match self.semicolon_token() {
@@ -136,7 +163,16 @@ pub enum FieldKind<'t> {
 }
 
 impl<'t> FieldExpr<'t> {
-    /// The field: [`FieldKind`] has an example.
+    /// The field.
+    ///
+    /// ```
+    /// use rap_tree::ast::{AstNode, FieldExpr, FieldKind};
+    /// use rap_tree::{Edition, TopEntryPoint, Tree};
+    ///
+    /// let tree = Tree::of_text(Edition::CURRENT, TopEntryPoint::Expr, "p.x");
+    /// let field = FieldExpr::cast(tree.root()).unwrap().field_access();
+    /// assert!(matches!(field, Some(FieldKind::Name(name)) if name.text() == "x"));
+    /// ```
     #[must_use]
     pub fn field_access(self) -> Option<FieldKind<'t>> {
         let name = self.name_ref()?;

@@ -306,7 +306,7 @@ node! { BinExpr BIN_EXPR "an operator between two expressions":
 }
 
 node! { RefExpr REF_EXPR "a reference, or a raw pointer":
-    one expr(Expr first) one amp_token[AMP] maybe mut_token[MUT_KW] maybe raw_token[RAW_KW]
+    one expr(Expr first) one amp_token[AMP] maybe raw_token[RAW_KW] maybe mut_token[MUT_KW]
     maybe const_token[CONST_KW]
 }
 
@@ -395,9 +395,9 @@ node! { ArrayExpr ARRAY_EXPR "an array: its elements, or one and how many":
 }
 
 node! { ClosureExpr CLOSURE_EXPR "a closure":
-    maybe for_binder(ForBinder first) one param_list(ParamList first) one body(Expr first)
-    maybe ret_type(RetType first) maybe const_token[CONST_KW] maybe static_token[STATIC_KW]
-    maybe async_token[ASYNC_KW] maybe gen_token[GEN_KW] maybe move_token[MOVE_KW]
+    maybe for_binder(ForBinder first) one param_list(ParamList first) maybe ret_type(RetType first)
+    one body(Expr first) maybe const_token[CONST_KW] maybe static_token[STATIC_KW] maybe async_token[ASYNC_KW]
+    maybe gen_token[GEN_KW] maybe move_token[MOVE_KW]
 }
 
 node! { IfExpr IF_EXPR "a choice by a condition":
@@ -700,7 +700,7 @@ node! { Use USE "an import":
 }
 
 node! { UseTree USE_TREE "a path of an import, `*` or a list behind a path":
-    maybe use_tree_list(UseTreeList first) maybe path(Path first) maybe rename(Rename first)
+    maybe path(Path first) maybe use_tree_list(UseTreeList first) maybe rename(Rename first)
     maybe coloncolon_token[COLON2] maybe star_token[STAR]
 }
 
@@ -714,12 +714,12 @@ node! { ParamList PARAM_LIST "the parameters of a function, in brackets, or of a
 }
 
 node! { Param PARAM "a parameter: a pattern with its type, one of them alone, or `...`":
-    maybe ty(Type first) maybe pat(Pat first) maybe dotdotdot_token[DOT3] maybe colon_token[COLON]
+    maybe pat(Pat first) maybe ty(Type first) maybe colon_token[COLON] maybe dotdotdot_token[DOT3]
 }
 
 node! { SelfParam SELF_PARAM "`self` as a parameter":
-    maybe ty(Type first) maybe lifetime(Lifetime first) maybe mut_token[MUT_KW] maybe colon_token[COLON]
-    maybe amp_token[AMP]
+    maybe lifetime(Lifetime first) maybe ty(Type first) maybe amp_token[AMP] maybe mut_token[MUT_KW]
+    maybe colon_token[COLON]
 }
 
 node! { OrPat OR_PAT "one of several patterns":
@@ -762,7 +762,7 @@ node! { RecordPatFieldList RECORD_PAT_FIELD_LIST "those fields":
 }
 
 node! { RecordPatField RECORD_PAT_FIELD "a field with its pattern, or its name alone":
-    one pat(Pat first) maybe name_ref(NameRef first) maybe colon_token[COLON]
+    maybe name_ref(NameRef first) one pat(Pat first) maybe colon_token[COLON]
 }
 
 node! { MacroPat MACRO_PAT "a call of a macro as a pattern":
@@ -879,14 +879,14 @@ node! { PatternType PATTERN_TYPE "a type with a pattern that its values match":
 
 node! { TypeBound TYPE_BOUND "a bound, perhaps in brackets":
     maybe lifetime(Lifetime first) maybe use_bound_generic_args(UseBoundGenericArgs first)
-    maybe for_binder(ForBinder first) maybe ty(Type first) maybe use_token[USE_KW] maybe const_token[CONST_KW]
-    maybe l_brack_token[L_BRACK] maybe r_brack_token[R_BRACK] maybe tilde_token[TILDE] maybe async_token[ASYNC_KW]
-    maybe question_mark_token[QUESTION] maybe l_paren_token[L_PAREN] maybe r_paren_token[R_PAREN]
+    maybe for_binder(ForBinder first) maybe ty(Type first) maybe l_paren_token[L_PAREN] maybe use_token[USE_KW]
+    maybe l_brack_token[L_BRACK] maybe tilde_token[TILDE] maybe const_token[CONST_KW] maybe r_brack_token[R_BRACK]
+    maybe async_token[ASYNC_KW] maybe question_mark_token[QUESTION] maybe r_paren_token[R_PAREN]
 }
 
 node! { TypeBoundList TYPE_BOUND_LIST "bounds with `+` between":
     any bounds(TypeBound all) maybe for_binder(ForBinder first) maybe l_paren_token[L_PAREN]
-    maybe const_token[CONST_KW] maybe l_brack_token[L_BRACK] maybe r_brack_token[R_BRACK] maybe tilde_token[TILDE]
+    maybe l_brack_token[L_BRACK] maybe tilde_token[TILDE] maybe const_token[CONST_KW] maybe r_brack_token[R_BRACK]
     maybe async_token[ASYNC_KW] maybe question_mark_token[QUESTION]
 }
 

@@ -23,7 +23,15 @@ pub enum StructKind<'t> {
 }
 
 impl<'t> Struct<'t> {
-    /// How it has its fields: [`StructKind`] has an example.
+    /// How it has its fields.
+    ///
+    /// ```
+    /// use rap_tree::ast::{AstNode, Struct, StructKind};
+    /// use rap_tree::{Edition, TopEntryPoint, Tree};
+    ///
+    /// let tree = Tree::of_text(Edition::CURRENT, TopEntryPoint::SourceFile, "struct S;");
+    /// assert_eq!(tree.root().descendants().find_map(Struct::cast).unwrap().kind(), StructKind::Unit);
+    /// ```
     #[must_use]
     pub fn kind(self) -> StructKind<'t> {
         match self.field_list() {
@@ -55,7 +63,16 @@ pub enum SelfParamKind {
 }
 
 impl SelfParam<'_> {
-    /// How `self` is taken: [`SelfParamKind`] has an example.
+    /// How `self` is taken.
+    ///
+    /// ```
+    /// use rap_tree::ast::{AstNode, SelfParam, SelfParamKind};
+    /// use rap_tree::{Edition, TopEntryPoint, Tree};
+    ///
+    /// let tree = Tree::of_text(Edition::CURRENT, TopEntryPoint::SourceFile, "fn f(mut self) {}");
+    /// let kind = tree.root().descendants().find_map(SelfParam::cast).unwrap().kind();
+    /// assert_eq!(kind, SelfParamKind::Owned);
+    /// ```
     #[must_use]
     pub fn kind(self) -> SelfParamKind {
         let name = self.name().map_or(usize::MAX, |it| it.syntax().text_range().start);
@@ -92,7 +109,16 @@ pub enum VisibilityKind<'t> {
 }
 
 impl<'t> Visibility<'t> {
-    /// Who may see it: [`VisibilityKind`] has an example.
+    /// Who may see it.
+    ///
+    /// ```
+    /// use rap_tree::ast::{AstNode, Visibility, VisibilityKind};
+    /// use rap_tree::{Edition, TopEntryPoint, Tree};
+    ///
+    /// let tree = Tree::of_text(Edition::CURRENT, TopEntryPoint::SourceFile, "pub(in a::b) fn f() {}");
+    /// let kind = tree.root().descendants().find_map(Visibility::cast).unwrap().kind();
+    /// assert!(matches!(kind, VisibilityKind::In(path) if path.to_string() == "a::b"));
+    /// ```
     #[must_use]
     pub fn kind(self) -> VisibilityKind<'t> {
         let Some(path) = self.visibility_inner().and_then(|it| it.path()) else { return VisibilityKind::Pub };

@@ -89,7 +89,16 @@ pub enum PathSegmentKind<'t> {
 }
 
 impl<'t> PathSegment<'t> {
-    /// What it is: [`PathSegmentKind`] has an example.
+    /// What it is.
+    ///
+    /// ```
+    /// use rap_tree::ast::{AstNode, PathSegment, PathSegmentKind};
+    /// use rap_tree::{Edition, TopEntryPoint, Tree};
+    ///
+    /// let tree = Tree::of_text(Edition::CURRENT, TopEntryPoint::Expr, "x");
+    /// let segment = tree.root().descendants().find_map(PathSegment::cast).unwrap();
+    /// assert!(matches!(segment.kind(), Some(PathSegmentKind::Name(name)) if name.text() == "x"));
+    /// ```
     #[must_use]
     pub fn kind(self) -> Option<PathSegmentKind<'t>> {
         if let Some(anchor) = self.type_anchor() {
@@ -214,7 +223,16 @@ impl<'t> Attr<'t> {
         }
     }
 
-    /// Its tokens in brackets: [`Attr::simple_name`] has an example.
+    /// Its tokens in brackets.
+    ///
+    /// ```
+    /// use rap_tree::ast::{AstNode, Attr};
+    /// use rap_tree::{Edition, TopEntryPoint, Tree};
+    ///
+    /// let tree = Tree::of_text(Edition::CURRENT, TopEntryPoint::SourceFile, "#[cfg_eval] #[a(b c)] struct S;");
+    /// let attr = tree.root().descendants().filter_map(Attr::cast).last().unwrap();
+    /// assert_eq!(attr.token_tree().unwrap().to_string(), "(b c)");
+    /// ```
     #[must_use]
     pub fn token_tree(self) -> Option<TokenTree<'t>> {
         match self.inner_meta()? {

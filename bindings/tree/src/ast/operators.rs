@@ -173,7 +173,15 @@ fn range_op(kind: SyntaxKind) -> RangeOp {
 }
 
 impl BinExpr<'_> {
-    /// What it does: [`BinaryOp`] has an example.
+    /// What it does.
+    ///
+    /// ```
+    /// use rap_tree::ast::{ArithOp, AstNode, BinExpr, BinaryOp};
+    /// use rap_tree::{Edition, TopEntryPoint, Tree};
+    ///
+    /// let tree = Tree::of_text(Edition::CURRENT, TopEntryPoint::Expr, "a % b");
+    /// assert_eq!(BinExpr::cast(tree.root()).unwrap().op_kind(), Some(BinaryOp::ArithOp(ArithOp::Rem)));
+    /// ```
     #[must_use]
     pub fn op_kind(self) -> Option<BinaryOp> {
         let compared = |ordering, strict| BinaryOp::CmpOp(CmpOp::Ord { ordering, strict });
@@ -197,7 +205,15 @@ impl BinExpr<'_> {
 }
 
 impl PrefixExpr<'_> {
-    /// What it does: [`UnaryOp`] has an example.
+    /// What it does.
+    ///
+    /// ```
+    /// use rap_tree::ast::{AstNode, PrefixExpr, UnaryOp};
+    /// use rap_tree::{Edition, TopEntryPoint, Tree};
+    ///
+    /// let tree = Tree::of_text(Edition::CURRENT, TopEntryPoint::Expr, "!a");
+    /// assert_eq!(PrefixExpr::cast(tree.root()).unwrap().op_kind(), Some(UnaryOp::Not));
+    /// ```
     #[must_use]
     pub fn op_kind(self) -> Option<UnaryOp> {
         Some(match self.op_token()?.kind() {
@@ -209,7 +225,15 @@ impl PrefixExpr<'_> {
 }
 
 impl RangeExpr<'_> {
-    /// Whether it has its end: [`RangeOp`] has an example.
+    /// Whether it has its end.
+    ///
+    /// ```
+    /// use rap_tree::ast::{AstNode, RangeExpr, RangeOp};
+    /// use rap_tree::{Edition, TopEntryPoint, Tree};
+    ///
+    /// let tree = Tree::of_text(Edition::CURRENT, TopEntryPoint::Expr, "1..");
+    /// assert_eq!(RangeExpr::cast(tree.root()).unwrap().op_kind(), Some(RangeOp::Exclusive));
+    /// ```
     #[must_use]
     pub fn op_kind(self) -> Option<RangeOp> {
         Some(range_op(self.op_token()?.kind()))
@@ -217,7 +241,15 @@ impl RangeExpr<'_> {
 }
 
 impl RangePat<'_> {
-    /// Whether it has its end, as of a [`RangeExpr`].
+    /// Whether it has its end.
+    ///
+    /// ```
+    /// use rap_tree::ast::{AstNode, RangeOp, RangePat};
+    /// use rap_tree::{Edition, TopEntryPoint, Tree};
+    ///
+    /// let tree = Tree::of_text(Edition::CURRENT, TopEntryPoint::Pattern, "1..=2");
+    /// assert_eq!(RangePat::cast(tree.root()).unwrap().op_kind(), Some(RangeOp::Inclusive));
+    /// ```
     #[must_use]
     pub fn op_kind(self) -> Option<RangeOp> {
         Some(range_op(self.op_token()?.kind()))

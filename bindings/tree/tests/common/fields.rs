@@ -85,7 +85,7 @@ fields! {
         one lhs one rhs one [op_token]
     ;
     RefExpr REF_EXPR:
-        any attrs any doc_comments one expr one [amp_token] maybe [mut_token] maybe [raw_token] maybe [const_token]
+        any attrs any doc_comments one expr one [amp_token] maybe [raw_token] maybe [mut_token] maybe [const_token]
     ;
     PrefixExpr PREFIX_EXPR:
         any attrs any doc_comments maybe expr maybe [op_token]
@@ -149,7 +149,7 @@ fields! {
         one [r_brack_token]
     ;
     ClosureExpr CLOSURE_EXPR:
-        any attrs any doc_comments maybe for_binder one param_list one body maybe ret_type maybe [const_token]
+        any attrs any doc_comments maybe for_binder one param_list maybe ret_type one body maybe [const_token]
         maybe [static_token] maybe [async_token] maybe [gen_token] maybe [move_token]
     ;
     IfExpr IF_EXPR:
@@ -361,7 +361,7 @@ fields! {
         any attrs any doc_comments maybe visibility one use_tree one [use_token] one [semicolon_token]
     ;
     UseTree USE_TREE:
-        maybe use_tree_list maybe path maybe rename maybe [coloncolon_token] maybe [star_token]
+        maybe path maybe use_tree_list maybe rename maybe [coloncolon_token] maybe [star_token]
     ;
     UseTreeList USE_TREE_LIST:
         any use_trees one [l_curly_token] one [r_curly_token]
@@ -371,11 +371,11 @@ fields! {
         maybe [pipe_token]
     ;
     Param PARAM:
-        any attrs any doc_comments maybe ty maybe pat maybe [dotdotdot_token] maybe [colon_token]
+        any attrs any doc_comments maybe pat maybe ty maybe [colon_token] maybe [dotdotdot_token]
     ;
     SelfParam SELF_PARAM:
-        any attrs any doc_comments one name maybe ty maybe lifetime maybe [mut_token] maybe [colon_token]
-        maybe [amp_token]
+        any attrs any doc_comments maybe lifetime one name maybe ty maybe [amp_token] maybe [mut_token]
+        maybe [colon_token]
     ;
     OrPat OR_PAT:
         any pats
@@ -406,7 +406,7 @@ fields! {
         any fields maybe rest_pat one [l_curly_token] one [r_curly_token]
     ;
     RecordPatField RECORD_PAT_FIELD:
-        any attrs any doc_comments one pat maybe name_ref maybe [colon_token]
+        any attrs any doc_comments maybe name_ref one pat maybe [colon_token]
     ;
     MacroPat MACRO_PAT:
         one macro_call
@@ -491,13 +491,13 @@ fields! {
         one [r_paren_token]
     ;
     TypeBound TYPE_BOUND:
-        maybe lifetime maybe use_bound_generic_args maybe for_binder maybe ty maybe [use_token] maybe [const_token]
-        maybe [l_brack_token] maybe [r_brack_token] maybe [tilde_token] maybe [async_token] maybe [question_mark_token]
-        maybe [l_paren_token] maybe [r_paren_token]
+        maybe lifetime maybe use_bound_generic_args maybe for_binder maybe ty maybe [l_paren_token] maybe [use_token]
+        maybe [l_brack_token] maybe [tilde_token] maybe [const_token] maybe [r_brack_token] maybe [async_token]
+        maybe [question_mark_token] maybe [r_paren_token]
     ;
     TypeBoundList TYPE_BOUND_LIST:
-        any bounds maybe for_binder maybe [l_paren_token] maybe [const_token] maybe [l_brack_token]
-        maybe [r_brack_token] maybe [tilde_token] maybe [async_token] maybe [question_mark_token]
+        any bounds maybe for_binder maybe [l_paren_token] maybe [l_brack_token] maybe [tilde_token] maybe [const_token]
+        maybe [r_brack_token] maybe [async_token] maybe [question_mark_token]
     ;
     GenericArgList GENERIC_ARG_LIST:
         any generic_args maybe [coloncolon_token] one [l_angle_token] one [r_angle_token]
