@@ -2,6 +2,7 @@
 import textwrap
 from typing import Iterator
 
+from support import written
 from views.description import camel_case
 from views.fields import COMMON, Field, Node, Views
 
@@ -79,11 +80,12 @@ class Writer:
         yield from wrapped('__all__ = [', [repr(it) for it in names], ']')
 
     def kinds_of_sets(self) -> Iterator[str]:
-        for name, kinds in self.views.said.sets.items():
+        used = {it.what for node in self.views.nodes for it in node.fields}
+        for name, kinds in ((it, its) for it, its in self.views.said.sets.items() if it in used):
             yield from wrapped(f'{self.constant(name)} = (', [f'Kind.{it}' for it in self.views.kind_names(kinds)], ')')
 
     def constant(self, name: str) -> str:
-        return f'_{self.views.reader.name_of(name).upper()}' if name != 'Type' else '_TYPE'
+        return f'_{written.snake_case(name).upper()}'
 
     def bases(self, what: str) -> list[str]:
         """The sets that a kind or a set is a member of."""
