@@ -8,15 +8,16 @@ from typing import NamedTuple
 from support import TOP
 
 # What holds the documents to the files, the pages of the grammar and the list of scripts to the scripts, and the lists
-# of kinds, of recursive rules, of rows and of shapes to their tables; the tests of the grammar's page and of the count
-# of the core grammar; the checkers of the scripts in Python and of the shell; and what holds the header to the last
-# release.
+# of kinds, of fields, of recursive rules, of rows and of shapes to their tables; the tests of the grammar's page, of
+# the count of the core grammar and of what a list of fields may not say; the checkers of the scripts in Python and of
+# the shell; and what holds the header to the last release.
 CHECKS = [['docs/check'], ['docs/grammar', '--check'], ['docs/core', '--check'], ['docs/nodes', '--check'],
-          ['docs/believed', '--check'], ['crates/rap_base/kinds', '--check'],
+          ['docs/believed', '--check'], ['crates/rap_base/kinds', '--check'], ['crates/rap_base/fields', '--check'],
           ['crates/rap_grammar_scripts/rules', '--check'], ['crates/rap_grammar_scripts/all_scripts', '--check'],
           ['crates/rap_grammar_facts/facts', '--check'], ['crates/rap_grammar_rows/rows', '--check'],
           ['crates/rap_grammar_shapes/models', '--check'], ['bindings/python/declarations', '--check'],
-          ['tests/grammar_rules'], ['tests/core_share_itself'], ['tests/scripts'], ['release/layout']]
+          ['tests/grammar_rules'], ['tests/core_share_itself'], ['tests/fields_refused'], ['tests/scripts'],
+          ['release/layout']]
 
 # What stands in a line that says what a check left out, and the status of one that left out all.
 MISSING, NOTHING = ', as these packages of Debian are not there: ', 2

@@ -7,7 +7,7 @@ import numpy as np
 from numpy.typing import NDArray
 
 from rap._source import Source
-from rap.node import Element, Node, Token
+from rap.node import CLASSES, Element, Node, Token
 
 # What stands for the parent of an element that has none.
 NO_PARENT = 2**32 - 1
@@ -93,8 +93,14 @@ class Elements:
 
     def element(self, index: int) -> Element:
         """The node or token with this index. What has nothing in it is a token, or an empty node."""
-        _, start, end, after, _ = self.words[5 * index:5 * index + 5]
-        return Token(self, index) if after == index + 1 and start < end else Node(self, index)
+        kind, start, end, after, _ = self.words[5 * index:5 * index + 5]
+        if after == index + 1 and start < end:
+            return Token(self, index)
+        return CLASSES.get(kind, Node)(self, index) if CLASSES else Node(self, index)
+
+    def node(self, index: int) -> Node:
+        """The node with this index, of the class of its kind where `rap.ast` is imported."""
+        return CLASSES.get(self.words[5 * index], Node)(self, index)
 
     def parent_of(self, index: int) -> int | None:
         """The index of the node that an element is in."""

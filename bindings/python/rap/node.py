@@ -76,7 +76,7 @@ class Element:
     def parent(self) -> Node | None:
         """The node that it is in. `None` of the root, and of a token of a text that was not parsed."""
         at = self._of.parent_of(self._index)
-        return None if at is None else Node(self._of, at)
+        return None if at is None else self._of.node(at)
 
     @property
     def children(self) -> list[Element]:
@@ -140,6 +140,13 @@ class Node(Element):
     """A node of a tree."""
 
     __slots__ = ()
+
+    # The names of its fields that are nodes, as the classes of `rap.ast` have them.
+    _fields: tuple[str, ...] = ()
+
+
+# The classes of nodes by the numbers of their kinds: `rap.ast` writes them where it is imported.
+CLASSES: dict[int, type[Node]] = {}
 
 
 class Token(Element):

@@ -62,7 +62,7 @@ class Tree(Elements):
     @property
     def root(self) -> Node:
         """The node that holds all others."""
-        return Node(self, 0)
+        return self.node(0)
 
     def leaf_at(self, offset: int) -> Token | None:
         """The token that holds a byte of the text. `None` at the end of the text and outside of it."""

@@ -96,7 +96,7 @@ def test_an_error_is_a_node_or_a_token() -> None:
     found = list(tree.root.descendants(Kind.ERROR))
     assert any(isinstance(it, rap.Token) and it.text == '\u00a7' for it in [tree.leaf_at(0), *found])
     empty = [it for it in rap.parse('1 +', entry='Expr').root.descendants(Kind.ERROR)]
-    assert [(type(it), it.range, it.children) for it in empty] in ([], [(rap.Node, (3, 3), [])])
+    assert [(isinstance(it, rap.Node), it.range, it.children) for it in empty] in ([], [(True, (3, 3), [])])
 
 
 def test_tokens() -> None:

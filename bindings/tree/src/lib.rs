@@ -18,6 +18,11 @@
 //! assert_eq!(names, ["f", "g"]);
 //! ```
 //!
+//! # Typed views
+//!
+//! [`ast`] has a view for each kind of nodes, by the names of rust-analyzer's `ast`: the same functions are
+//! `tree.root().descendants().filter_map(ast::Fn::cast)`, and the name of one is `function.name()`.
+//!
 //! # A tree in print
 //!
 //! `{}` of a node is its text, `{:?}` its kind and range, and `{:#?}` all that is in it.
@@ -49,6 +54,7 @@
 //! by bisection and such a climb.
 #![deny(missing_docs)]
 
+pub mod ast;
 mod iterators;
 mod line_index;
 mod message;

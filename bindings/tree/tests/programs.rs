@@ -26,8 +26,9 @@ const LINES: &str = r"   1 mod shapes
   15 type Shapes
 ";
 
-const PROGRAMS: [(&str, &str); 3] = [
+const PROGRAMS: [(&str, &str); 4] = [
     ("functions", "usage: functions FILE .."),
+    ("listing", "usage: listing FILE .."),
     ("outline", "usage: outline FILE"),
     ("tree", "usage: tree EDITION ENTRY FILE"),
 ];
@@ -70,6 +71,13 @@ fn finds_functions() {
     assert_eq!(ran("functions", &[&file]), (lines.clone(), String::new(), Some(0)));
     let fault = "/none/a.rs: No such file or directory (os error 2)\n";
     assert_eq!(ran("functions", &["/none/a.rs", &file]), (lines, fault.to_owned(), Some(2)));
+}
+
+#[test]
+fn lists_functions_by_views() {
+    let text = "impl S {\n    fn f(&self, x: u8, (a, b): (T, U)) -> V {\n    }\n}\nfn g() {}\nfn (x: u8) {}\n";
+    let lines = "f(&self, x: u8, (a, b): (T, U)) -> V: 2\ng() -> (): 1\n";
+    assert_eq!(ran("listing", &[&file("listing.rs", text)]), (lines.to_owned(), String::new(), Some(0)));
 }
 
 #[test]
