@@ -1,0 +1,4 @@
+pub mod Field
+pub mod Filled
+pub mod Found
+pub mod Rows
