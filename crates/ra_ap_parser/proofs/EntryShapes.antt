@@ -1,9 +1,9 @@
 -- What an entry makes has the shapes of its kinds.
-use Rattle.std.proofs.Common.{inl, inr, ℕ, Bool, true, false, List, [], ◌∷◌, refl, subst, sym}
+use Rattle.std.proofs.Common.{inl, inr, ℕ, Bool, true, false, List, [], ◌∷◌, All, refl, subst, sym}
 use Rattle.rap_base.specs.NodeKind.{SOURCE_FILE, MACRO_ITEMS, MACRO_STMTS}
 use Rattle.rap_base.specs.TokenKind.{ERROR}
 use Rattle.rap_events.specs.Forest.{Forest, none, node, leaf, one_tree}
-use Rattle.rap_events.specs.Record.{Record}
+use Rattle.rap_events.specs.Record.{Record, IsTokenRecord}
 use Rattle.rap_grammar_core.specs.StandsIn.{last_node, in_last_node, before_node, before_leaf}
 use Rattle.rap_grammar_scripts.specs.Script.{Script}
 use Rattle.rap_grammar_scripts.specs.declared.rule.Rule.{Rule}
@@ -47,47 +47,47 @@ top_within f [] h = kept_within (one_tree f) f h
 top_within f (r ∷ rs) h = within_error (with_leaves f (r ∷ rs)) (leaves_more f (r ∷ rs) h)
 
 -- a script whose nodes are so, under an entry
-top_shapes : (s : Script Rule) {input : List Record} {output : Forest} → KeepsShapes s → IsTopOf s input output →
-    HaveShapesWithin output
-top_shapes s k i =
+top_shapes : (s : Script Rule) {input : List Record} {output : Forest} → KeepsShapes s → All IsTokenRecord input →
+    IsTopOf s input output → HaveShapesWithin output
+top_shapes s k t i =
     subst (λ (f : Forest). HaveShapesWithin f) (sym i.tree)
-    (top_within i.made i.rest (from_none s k _ _ i.outcome i.run refl))
+    (top_within i.made i.rest (from_none s k _ _ i.outcome t i.run refl))
 
 root_shapes : (kind : ℕ) (s : Script Rule) {input : List Record} {output : Forest} → MakesNode kind s →
-    IsRootOf kind s input output → HaveShapesWithin output
-root_shapes kind s k i =
+    All IsTokenRecord input → IsRootOf kind s input output → HaveShapesWithin output
+root_shapes kind s k t i =
     subst (λ (f : Forest). HaveShapesWithin f) (sym i.tree)
-    (all_within (node none kind i.made) (k _ _ i.outcome i.run refl))
+    (all_within (node none kind i.made) (k _ _ i.outcome t i.run refl))
 
 -- What a top entry makes has shapes.
-pub entry_shapes : (e : TopEntryPoint) (input : List Record) (output : Forest) → IsOutputOf e input output →
-    HaveShapesWithin output
-entry_shapes entry.SourceFile input output i = root_shapes SOURCE_FILE _ roots_so.file i
-entry_shapes entry.MacroStmts input output i = root_shapes MACRO_STMTS _ roots_so.statements i
-entry_shapes entry.MacroItems input output i = root_shapes MACRO_ITEMS _ roots_so.items i
-entry_shapes entry.Pattern input output i = top_shapes _ alone_so.pattern i
-entry_shapes entry.Ty input output i = top_shapes _ alone_so.type i
-entry_shapes entry.Expr input output i = top_shapes _ alone_so.expression i
-entry_shapes entry.MetaItem input output i = top_shapes _ alone_so.meta i
+pub entry_shapes : (e : TopEntryPoint) (input : List Record) (output : Forest) → All IsTokenRecord input →
+    IsOutputOf e input output → HaveShapesWithin output
+entry_shapes entry.SourceFile input output t i = root_shapes SOURCE_FILE _ roots_so.file t i
+entry_shapes entry.MacroStmts input output t i = root_shapes MACRO_STMTS _ roots_so.statements t i
+entry_shapes entry.MacroItems input output t i = root_shapes MACRO_ITEMS _ roots_so.items t i
+entry_shapes entry.Pattern input output t i = top_shapes _ alone_so.pattern t i
+entry_shapes entry.Ty input output t i = top_shapes _ alone_so.type t i
+entry_shapes entry.Expr input output t i = top_shapes _ alone_so.expression t i
+entry_shapes entry.MetaItem input output t i = top_shapes _ alone_so.meta t i
 
 -- a script whose nodes are so, at the front of an input
-front_shapes : (s : Script Rule) {input : List Record} {output : Forest} → KeepsShapes s → IsPrefixOf s input output →
-    HaveShapes output
-front_shapes s k i = from_none s k _ _ i.outcome i.run refl
+front_shapes : (s : Script Rule) {input : List Record} {output : Forest} → KeepsShapes s → All IsTokenRecord input →
+    IsPrefixOf s input output → HaveShapes output
+front_shapes s k t i = from_none s k _ _ i.outcome t i.run refl
 
 -- So has what is read from the front of an input.
-pub prefix_shapes : (e : PrefixEntryPoint) (input : List Record) (output : Forest) → IsPrefixOutputOf e input output →
-    HaveShapes output
-prefix_shapes prefix.Vis input output i = front_shapes _ alone_so.visibility i
-prefix_shapes prefix.Block input output i = front_shapes _ alone_so.block i
-prefix_shapes prefix.Stmt input output i = front_shapes _ alone_so.statement i
-prefix_shapes prefix.Pat input output i = front_shapes _ alone_so.single_pattern i
-prefix_shapes prefix.PatTop input output i = front_shapes _ alone_so.pattern i
-prefix_shapes prefix.Ty input output i = front_shapes _ alone_so.type i
-prefix_shapes prefix.Expr input output i = front_shapes _ alone_so.expression i
-prefix_shapes prefix.Path input output i = front_shapes _ alone_so.path i
-prefix_shapes prefix.Item input output i = front_shapes _ alone_so.item i
-prefix_shapes prefix.MetaItem input output i = front_shapes _ alone_so.meta i
+pub prefix_shapes : (e : PrefixEntryPoint) (input : List Record) (output : Forest) → All IsTokenRecord input →
+    IsPrefixOutputOf e input output → HaveShapes output
+prefix_shapes prefix.Vis input output t i = front_shapes _ alone_so.visibility t i
+prefix_shapes prefix.Block input output t i = front_shapes _ alone_so.block t i
+prefix_shapes prefix.Stmt input output t i = front_shapes _ alone_so.statement t i
+prefix_shapes prefix.Pat input output t i = front_shapes _ alone_so.single_pattern t i
+prefix_shapes prefix.PatTop input output t i = front_shapes _ alone_so.pattern t i
+prefix_shapes prefix.Ty input output t i = front_shapes _ alone_so.type t i
+prefix_shapes prefix.Expr input output t i = front_shapes _ alone_so.expression t i
+prefix_shapes prefix.Path input output t i = front_shapes _ alone_so.path t i
+prefix_shapes prefix.Item input output t i = front_shapes _ alone_so.item t i
+prefix_shapes prefix.MetaItem input output t i = front_shapes _ alone_so.meta t i
 
 -- the script of each part
 part_keeps : (p : Part) → KeepsShapes (part_script p)
@@ -105,6 +105,6 @@ part_keeps part.AssocItemList = alone_so.assoc_items
 part_keeps part.ItemList = alone_so.items
 
 -- So has a part.
-pub part_shapes : (p : Part) (input : List Record) (output : Forest) → IsPrefixOf (part_script p) input output →
-    HaveShapes output
-part_shapes p input output i = front_shapes (part_script p) (part_keeps p) i
+pub part_shapes : (p : Part) (input : List Record) (output : Forest) → All IsTokenRecord input →
+    IsPrefixOf (part_script p) input output → HaveShapes output
+part_shapes p input output t i = front_shapes (part_script p) (part_keeps p) t i

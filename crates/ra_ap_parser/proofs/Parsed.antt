@@ -9,6 +9,7 @@ use Rattle.rap_events.specs.Forest.{Forest, flat, splits_placed, used}
 use Rattle.rap_events.specs.Record.{Record}
 use Rattle.rap_events.proofs.Trees.{tree}
 use Rattle.rap_grammar.specs.Top.{IsTreeOver}
+use Rattle.rap_grammar_shapes.specs.HaveShapes.{HaveShapesWithin}
 use Rattle.ra_ap_parser.specs.EntryScript.{IsOutputOf}
 use Rattle.rap_lexed.specs.Input.{records}
 use Rattle.rap_lexed.specs.LexedStr.{AreTokens, Lexed, IsLexing, joined}
@@ -27,7 +28,6 @@ use Rattle.ra_ap_parser.specs.Headline.{HasTooManyTokens, Headline, IsParsed, Le
 use Rattle.ra_ap_parser.specs.declared.entry_point.TopEntryPoint.{TopEntryPoint}
 use Rattle.ra_ap_parser.specs.declared.whole_text.TextFault.{TextFault}
 use Rattle.ra_ap_parser.specs.declared.whole_text.TextFault.TheVariants.{TextTooLong, TooManyTokens, NoMemory, Refused}
-use Rattle.ra_ap_parser.proofs.EntryShapes.{entry_shapes}
 use Rattle.ra_ap_parser.proofs.EntryTrees.{core_tree}
 use Rattle.rap_base.specs.Limits.{max_tokens}
 
@@ -46,8 +46,8 @@ few_in_bytes : (text : List ℕ) (ts : List Token) (steps own n : ℕ) → joine
 few_in_bytes text ts steps own n whole tokens e few all =
     omega (arith, few_tokens_in ts tokens.full, ap length whole, count_by-le-length is_significant ts, e, few, all)
 
-pub parsed : (text : List ℕ) (edition : Edition) (entry : TopEntryPoint) (lexed : Lexed) (input : List Record) (f : Forest) → (4294967295 < length text → ⊥) → IsLexing text edition lexed → input ≡ records lexed.tokens edition → (max_tokens < length input → ⊥) → IsTreeOver input f → IsOutputOf entry input f → str_one_tree (with_trivia lexed.tokens f) ≡ true → AreTokens lexed.tokens → length input ≡ significant lexed.tokens → length (str_flat (with_trivia lexed.tokens f)) ≤ length (flat f) + (9 * used f + length lexed.tokens) → IsParsed text edition entry lexed f
-parsed text edition entry lexed input f small lexing e few tree made one tokens count whole = record {
+pub parsed : (text : List ℕ) (edition : Edition) (entry : TopEntryPoint) (lexed : Lexed) (input : List Record) (f : Forest) → (4294967295 < length text → ⊥) → IsLexing text edition lexed → input ≡ records lexed.tokens edition → (max_tokens < length input → ⊥) → IsTreeOver input f → IsOutputOf entry input f → HaveShapesWithin f → str_one_tree (with_trivia lexed.tokens f) ≡ true → AreTokens lexed.tokens → length input ≡ significant lexed.tokens → length (str_flat (with_trivia lexed.tokens f)) ≤ length (flat f) + (9 * used f + length lexed.tokens) → IsParsed text edition entry lexed f
+parsed text edition entry lexed input f small lexing e few tree made shapes one tokens count whole = record {
   small = at_most 4294967295 (length text) small;
   lexing = lexing;
   few_tokens = subst (λ (rs : List Record). length rs ≤ max_tokens) e (at_most max_tokens (length input) few);
@@ -56,11 +56,11 @@ parsed text edition entry lexed input f small lexing e few tree made one tokens 
   all_used = tree.forest.used ∙ ap length e;
   few_steps = subst (λ (rs : List Record). length (flat f) ≤ 256 * (length rs + 1)) e tree.forest.few;
   made = subst (λ (rs : List Record). IsOutputOf entry rs f) e made;
-  shapes = entry_shapes entry input f made;
+  shapes = shapes;
   core = λ t h. core_tree entry (records lexed.tokens edition) (subst (λ (rs : List Record). IsOutputOf entry rs f) e made) h;
   text_shapes =
       text_nodes lexed.tokens edition f (subst (λ (rs : List Record). covers rs f ≡ true) e tree.forest.covers)
-      (entry_shapes entry input f made);
+      shapes;
   str_one = one;
   few_whole =
       few_in_bytes text lexed.tokens (length (str_flat (with_trivia lexed.tokens f))) (length (flat f)) (length input) lexing.whole tokens count tree.forest.few
@@ -68,11 +68,11 @@ parsed text edition entry lexed input f small lexing e few tree made one tokens 
 }
 
 -- the same without a walk through the steps
-pub parsed_tokens : (text : List ℕ) (edition : Edition) (entry : TopEntryPoint) (lexed : Lexed) (input : List Record) (f : Forest) → (4294967295 < length text → ⊥) → IsLexing text edition lexed → input ≡ records lexed.tokens edition → (max_tokens < length input → ⊥) → IsTreeOver input f → IsOutputOf entry input f → splits_placed f ≡ true → AreTokens lexed.tokens → length input ≡ significant lexed.tokens → IsParsed text edition entry lexed f
-parsed_tokens text edition entry lexed input f small lexing e few over made splits tokens count =
+pub parsed_tokens : (text : List ℕ) (edition : Edition) (entry : TopEntryPoint) (lexed : Lexed) (input : List Record) (f : Forest) → (4294967295 < length text → ⊥) → IsLexing text edition lexed → input ≡ records lexed.tokens edition → (max_tokens < length input → ⊥) → IsTreeOver input f → IsOutputOf entry input f → HaveShapesWithin f → splits_placed f ≡ true → AreTokens lexed.tokens → length input ≡ significant lexed.tokens → IsParsed text edition entry lexed f
+parsed_tokens text edition entry lexed input f small lexing e few over made shapes splits tokens count =
     let covering : covers (records lexed.tokens edition) f ≡ true = subst (λ (rs : List Record). covers rs f ≡ true) e over.forest.covers in
     let answers = answers-tree lexed.tokens edition f over.one covering in
-    parsed text edition entry lexed input f small lexing e few over made (one-tree lexed.tokens f over.one) tokens count
+    parsed text edition entry lexed input f small lexing e few over made shapes (one-tree lexed.tokens f over.one) tokens count
     (omega (arith, answers.within, few-tree lexed.tokens f over.one (tree f splits)))
 
 -- a sink that has taken the steps of that tree has taken those of the text

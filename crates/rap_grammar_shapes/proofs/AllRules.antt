@@ -1,7 +1,8 @@
 -- Every rule brings what is claimed of it, and what a script appends has the children of its nodes' kinds.
-use Rattle.std.proofs.Common.{◌≡◌, ℕ, Bool, true, false, List, [], ◌∷◌, if◌then◌else◌, refl, sym, subst, ap, ◌∙◌}
+use Rattle.std.proofs.Common.{◌≡◌, ℕ, Bool, true, false, List, [], ◌∷◌, All, if◌then◌else◌, refl, sym, subst, ap, ◌∙◌}
 use Rattle.rap_events.proofs.Truth.{and_left, and_right}
 use Rattle.rap_events.specs.Forest.{Forest, none, node, leaf, message, split, ◌⧺◌}
+use Rattle.rap_events.specs.Record.{IsTokenRecord}
 use Rattle.rap_grammar_core.specs.StandsIn.{last_node, in_last_node, before_node, before_leaf, before_message, before_split}
 use Rattle.rap_grammar_scripts.specs.Knot.{script_of}
 use Rattle.rap_grammar_scripts.specs.Script.{Script, Outcome, Spot, Runs}
@@ -13,13 +14,13 @@ use Rattle.rap_grammar_scripts.specs.declared.rule.Rule.TheVariants as knot
 use Rattle.rap_grammar_scripts.proofs.Tally.{same_is}
 use Rattle.rap_grammar_table.specs.Known.{among}
 use Rattle.rap_grammar_table.specs.Shapes.{Child, children_of, Spells}
-use Rattle.rap_grammar_table.proofs.Known.{by_or, every_so}
+use Rattle.rap_grammar_table.proofs.Known.{nothing_known, by_or, every_so}
 use Rattle.rap_grammar_table.proofs.Shaped.{OfChildren, AllSo, all_so-⧺, found}
 use Rattle.rap_grammar_shapes.specs.HaveShapes.{HaveShapes, RulesKeepShapes, KeepsShapes, MakesNode}
 use Rattle.rap_grammar_shapes.specs.Shapes.{shape_of}
 use Rattle.rap_grammar_shapes.specs.Whole.{IsWhole}
 use Rattle.rap_grammar_shapes.proofs.Along.{spelled}
-use Rattle.rap_grammar_shapes.proofs.Claims.{brings}
+use Rattle.rap_grammar_shapes.proofs.Claims.{brings, looks}
 use Rattle.rap_grammar_shapes.proofs.Content.{Content, nothing, leaf_of, node_of, spoilt, ◌or◌, Holds, a_leaf, a_node, by_first, by_second}
 use Rattle.rap_grammar_shapes.proofs.Ends.{Contents, astray, contents, Ends, ends, has_leaves, has_nodes, has_spoilt, within, end_among, all_among}
 use Rattle.rap_grammar_shapes.proofs.ExprRules.{expr_keeps_no_structs_first, expr_keeps_no_structs, expr_keeps_structs_first, expr_keeps_structs}
@@ -93,8 +94,8 @@ end_so (e ∷ k) v w (contents a []) p q i h x =
 all_so : (l : Ends) (k : List (Outcome × Content)) (v : Outcome) (p q : Spot) → all_among l k ≡ true →
     Among p.forest p.below l v q → Brought k v p q
 all_so [] k v p q h a = elim a [ ]
-all_so (e ∷ l) k v p q h (this_one i c) = end_so k v e.0 e.1 p q i (and_left (end_among e.0 e.1 k) _ h) c
-all_so (e ∷ l) k v p q h (later_one a) = all_so l k v p q (and_right (end_among e.0 e.1 k) _ h) a
+all_so (e ∷ l) k v p q h (this_one i s c) = end_so k v e.0 e.2 p q i (and_left (end_among e.0 e.2 k) _ h) c
+all_so (e ∷ l) k v p q h (later_one a) = all_so l k v p q (and_right (end_among e.0 e.2 k) _ h) a
 
 -- every rule, by its arguments
 expr_keeps : (a b : Bool) (bp : ℕ) → Keeps (knot.ExprBp (record { forbid_structs = a; prefer_stmt = b }) bp)
@@ -134,12 +135,13 @@ each_keeps knot.TokenTree = token_tree_keeps
 
 -- Every rule brings what is claimed of it.
 pub all_bring : BringsSo
-all_bring c p q v a = all_so (ends (script_of c) (contents nothing [])) (brings c) v p q (each_keeps c) a
+all_bring c p q v a = all_so (ends (looks c) (script_of c) [] (contents nothing [])) (brings c) v p q (each_keeps c) a
 
 -- where a script ends that begins where nothing was appended yet
-ends_from : (s : Script Rule) (p q : Spot) (v : Outcome) → Runs script_of s p q v →
-    Among p.forest p.below (ends s (contents nothing [])) v q
-ends_from s p q v r = keeps all_bring p q v r (contents nothing []) p.forest p.below (nothing_yet p)
+ends_from : (deep : Bool) (s : Script Rule) (p q : Spot) (v : Outcome) → All IsTokenRecord p.rest →
+    Runs script_of s p q v → Among p.forest p.below (ends deep s [] (contents nothing [])) v q
+ends_from deep s p q v t r =
+    keeps all_bring p q v t r deep [] (contents nothing []) (nothing_known p.rest) p.forest p.below (nothing_yet p)
 
 -- a node is of the shape of its kind
 abbrev pub Spelled : OfChildren
@@ -179,9 +181,9 @@ brought_so (e ∷ k) v p q (other_way b) a = brought_so k v p q b a
 
 -- Rules add nodes that have the children of their kinds.
 pub rules_keep : RulesKeepShapes
-rules_keep c p q v r h =
+rules_keep c p q v t r h =
     shapes_of q.forest
-    (brought_so (brings c) v p q (all_bring c p q v (ends_from (script_of c) p q v r)) (all_of p.forest h))
+    (brought_so (brings c) v p q (all_bring c p q v (ends_from (looks c) (script_of c) p q v t r)) (all_of p.forest h))
 
 -- what a known end has appended
 known_so : (x : Contents) (p q : Spot) → is_known x ≡ true → Is p.forest p.below x q → AllSo Spelled p.forest →
@@ -195,23 +197,23 @@ known_so (contents c []) p q h i a =
 all_known_so : (l : Ends) (v : Outcome) (p q : Spot) → all_known l ≡ true → Among p.forest p.below l v q →
     AllSo Spelled p.forest → AllSo Spelled q.forest
 all_known_so [] v p q h a x = elim a [ ]
-all_known_so (e ∷ l) v p q h (this_one i c) x = known_so e.1 p q (and_left (is_known e.1) (all_known l) h) c x
-all_known_so (e ∷ l) v p q h (later_one a) x = all_known_so l v p q (and_right (is_known e.1) (all_known l) h) a x
+all_known_so (e ∷ l) v p q h (this_one i s c) x = known_so e.2 p q (and_left (is_known e.2) (all_known l) h) c x
+all_known_so (e ∷ l) v p q h (later_one a) x = all_known_so l v p q (and_right (is_known e.2) (all_known l) h) a x
 
 -- A script whose ends are known adds nodes that have the children of their kinds.
-pub script_so : (s : Script Rule) → knows s ≡ true → KeepsShapes s
-script_so s h p q v r a =
+pub script_so : (deep : Bool) (s : Script Rule) → knows deep s ≡ true → KeepsShapes s
+script_so deep s h p q v t r a =
     shapes_of q.forest
-    (all_known_so (ends s (contents nothing [])) v p q h (ends_from s p q v r) (all_of p.forest a))
+    (all_known_so (ends deep s [] (contents nothing [])) v p q h (ends_from deep s p q v t r) (all_of p.forest a))
 
 -- no node stands in no tree
 no_nodes : HaveShapes none
 no_nodes place kind children n w = elim n [ ]
 
 -- From nothing on all nodes are so.
-pub from_none : (s : Script Rule) → KeepsShapes s → (p q : Spot) (v : Outcome) → Runs script_of s p q v →
-    p.forest ≡ none → HaveShapes q.forest
-from_none s k p q v r i = k p q v r (subst (λ (f : Forest). HaveShapes f) (sym i) no_nodes)
+pub from_none : (s : Script Rule) → KeepsShapes s → (p q : Spot) (v : Outcome) → All IsTokenRecord p.rest →
+    Runs script_of s p q v → p.forest ≡ none → HaveShapes q.forest
+from_none s k p q v t r i = k p q v t r (subst (λ (f : Forest). HaveShapes f) (sym i) no_nodes)
 
 none-⧺ : (f : Forest) → none ⧺ f ≡ f
 none-⧺ none = refl
@@ -233,14 +235,14 @@ stand_so kind (contents c []) p q h e i =
 all_stand_so : (kind : ℕ) (l : Ends) (v : Outcome) (p q : Spot) → all_stand kind l ≡ true → p.forest ≡ none →
     Among p.forest p.below l v q → AllSo Claimed (node none kind q.forest)
 all_stand_so kind [] v p q h e a = elim a [ ]
-all_stand_so kind (x ∷ l) v p q h e (this_one i c) =
-    stand_so kind x.1 p q (and_left (may_stand kind x.1) (all_stand kind l) h) e c
+all_stand_so kind (x ∷ l) v p q h e (this_one i s c) =
+    stand_so kind x.2 p q (and_left (may_stand kind x.2) (all_stand kind l) h) e c
 all_stand_so kind (x ∷ l) v p q h e (later_one a) =
-    all_stand_so kind l v p q (and_right (may_stand kind x.1) (all_stand kind l) h) e a
+    all_stand_so kind l v p q (and_right (may_stand kind x.2) (all_stand kind l) h) e a
 
 -- What a script makes from nothing on may stand under a node of a kind: all nodes are so, with that one.
-pub root_so : (kind : ℕ) (s : Script Rule) → stands_under kind s ≡ true → MakesNode kind s
-root_so kind s h p q v r i =
+pub root_so : (kind : ℕ) (deep : Bool) (s : Script Rule) → stands_under kind deep s ≡ true → MakesNode kind s
+root_so kind deep s h p q v t r i =
     shapes_of (node none kind q.forest)
     (spelled_all (node none kind q.forest)
-    (all_stand_so kind (ends s (contents nothing [])) v p q h i (ends_from s p q v r)))
+    (all_stand_so kind (ends deep s [] (contents nothing [])) v p q h i (ends_from deep s p q v t r)))

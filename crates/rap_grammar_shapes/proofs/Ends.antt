@@ -1,13 +1,15 @@
 -- What stands under each open node of a script, and what a script appends, computed from the script alone.
-use Rattle.std.specs.Prelude.{◌==◌, ◌&&◌, ◌||◌, ℕ, zero, suc, Bool, true, false, List, [], ◌∷◌, Option, Some, None, if◌then◌else◌}
+use Rattle.std.specs.Prelude.{◌==◌, ◌&&◌, ◌||◌, ℕ, zero, suc, Bool, true, false, List, [], ◌∷◌, ◌++◌, drop, Option, Some, None, if◌then◌else◌}
 use Rattle.rap_base.specs.NodeKind.{FIELD_EXPR}
 use Rattle.rap_base.specs.TokenKind.{ERROR}
+use Rattle.rap_events.specs.Composite.{width}
 use Rattle.rap_grammar_scripts.specs.Script.{Script, Outcome, nothing as none_left, something, block, again, give, test, ends_with, token, any, bear, report, report_next, skip, start, precede, finish, extend, abandon, split_float, after as and_then, rule, loop}
-use Rattle.rap_grammar_scripts.specs.Tally.{same_outcome}
+use Rattle.rap_grammar_scripts.specs.Tally.{same_flag, same_outcome}
 use Rattle.rap_grammar_scripts.specs.declared.rule.Rule.{Rule}
 use Rattle.rap_grammar_table.specs.Known.{every_one, among}
+use Rattle.rap_grammar_shapes.proofs.Ahead.{Ahead, equal_ahead, learned, by_ahead, next_leaf}
 use Rattle.rap_grammar_shapes.proofs.Claims.{brings}
-use Rattle.rap_grammar_shapes.proofs.Content.{Content, nothing, leaf_of, any_leaf, node_of, a_float, spoilt, ◌⋅◌, ◌or◌, any_of, choose, equal, either_of, onto, last_nodes, before, many}
+use Rattle.rap_grammar_shapes.proofs.Content.{Content, nothing, leaf_of, node_of, a_float, spoilt, ◌⋅◌, ◌or◌, any_of, any_leaf, choose, equal, either_of, onto, last_nodes, before, many}
 use Rattle.rap_grammar_shapes.proofs.Models.{model}
 use Rattle.rap_grammar_shapes.proofs.Runs.{runs, comes_back}
 
@@ -128,128 +130,277 @@ either astray y = astray
 either (contents a os) astray = astray
 either (contents a os) (contents b bs) = joined_if (equal_older os bs) a b os
 
--- where a script ends: what stands there, by its outcome, each once
+-- where a script ends: by its outcome and what comes next, what stands there, each once
 abbrev pub Ends : Type 0
-Ends = List (Outcome × Contents)
+Ends = List (Outcome × Ahead × Contents)
 
-abbrev pub put : Outcome → Contents → Ends → Ends
-put v x [] = (v, x) ∷ []
-put v x (e ∷ l) = let rest = put v x l in if same_outcome v e.0 then (e.0, either x e.1) ∷ l else e ∷ rest
+abbrev pub same_end : Outcome → Ahead → Outcome × Ahead × Contents → Bool
+same_end v l e = let rest = equal_ahead l e.1 in choose (same_outcome v e.0) rest false
+
+abbrev pub put : Outcome → Ahead → Contents → Ends → Ends
+put v l x [] = (v, l, x) ∷ []
+put v l x (e ∷ k) = let rest = put v l x k in if same_end v l e then (e.0, e.1, either x e.2) ∷ k else e ∷ rest
 
 abbrev pub pool : Ends → Ends → Ends
 pool [] k = k
-pool (e ∷ l) k = put e.0 e.1 (pool l k)
+pool (e ∷ j) k = put e.0 e.1 e.2 (pool j k)
 
--- on from each end
-abbrev pub gather : (Outcome → Contents → Ends) → Ends → Ends
+-- on from each end, and in each way in which the tokens may go on
+abbrev pub gather : (Outcome → Ahead → Contents → Ends) → Ends → Ends
 gather f [] = []
-gather f (e ∷ l) = pool (by_contents e.1 (λ y. f e.0 y)) (gather f l)
+gather f (e ∷ k) = pool (by_ahead e.1 (λ l. by_contents e.2 (λ y. f e.0 l y))) (gather f k)
+
+abbrev pub on_ways : (Ahead → Ends) → List Ahead → Ends
+on_ways f [] = []
+on_ways f (l ∷ ls) = pool (by_ahead l f) (on_ways f ls)
 
 -- behind what a rule brings
 abbrev pub rule_ends : Contents → List (Outcome × Content) → Ends
 rule_ends x [] = []
-rule_ends x (e ∷ l) = (e.0, with_more e.1 x) ∷ rule_ends x l
+rule_ends x (e ∷ k) = (e.0, [], with_more e.1 x) ∷ rule_ends x k
 
--- What the turns of a loop append that go on, where each turn appends to the newest node alone.
-pub data Turn : Type 0 where
-  no_turn : Turn
-  a_turn : Content → Turn
-  lost : Turn
+-- the ends of a turn at which its loop goes on, and the others
+abbrev pub again_by : Outcome → Ahead → Contents → Ends → Ends
+again_by none_left l x k = k
+again_by something l x k = k
+again_by block l x k = k
+again_by (again c d) l x k = (again c d, l, x) ∷ k
 
-abbrev pub turn_of : Outcome → Content → Turn → Turn
-turn_of none_left a t = t
-turn_of something a t = t
-turn_of block a t = t
-turn_of (again c d) a no_turn = a_turn a
-turn_of (again c d) a (a_turn b) = a_turn (either_of a b)
-turn_of (again c d) a lost = lost
+abbrev pub agains : Ends → Ends
+agains [] = []
+agains (e ∷ k) = again_by e.0 e.1 e.2 (agains k)
 
-abbrev pub turn_by : Outcome → Contents → Turn → Turn
-turn_by v astray t = lost
-turn_by v (contents a []) lost = lost
-turn_by v (contents a []) t = turn_of v a t
-turn_by v (contents a (b ∷ os)) t = lost
+abbrev pub last_by : Outcome → Ahead → Contents → Ends → Ends
+last_by none_left l x k = (none_left, l, x) ∷ k
+last_by something l x k = (something, l, x) ∷ k
+last_by block l x k = (block, l, x) ∷ k
+last_by (again c d) l x k = k
 
-abbrev pub turn_in : Ends → Turn
-turn_in [] = no_turn
-turn_in (e ∷ l) = turn_by e.0 e.1 (turn_in l)
+abbrev pub dones : Ends → Ends
+dones [] = []
+dones (e ∷ k) = last_by e.0 e.1 e.2 (dones k)
 
--- the turns that go on, behind what stands there
-abbrev pub repeated : Turn → Contents → Contents
-repeated no_turn x = x
-repeated (a_turn a) x = with_more (many a) x
-repeated lost x = astray
+-- A turn of a loop, by its flags, by what comes next and by what stands there.
+abbrev pub Turn : Type 0
+Turn = Bool → Bool → Ahead → Contents → Ends
 
--- the last turn behind these
+-- where a turn begins: its flags, and what comes next
+pub record Start : Type 0 where
+  pub first : Bool
+  pub second : Bool
+  pub next : Ahead
+
+abbrev pub begin_at : Bool → Bool → Ahead → Start
+begin_at c d l = record { first = c; second = d; next = l }
+
+abbrev pub equal_start : Start → Start → Bool
+equal_start s t =
+    let next = equal_ahead s.next t.next in
+    let second = choose (same_flag s.second t.second) next false in choose (same_flag s.first t.first) second false
+
+-- from nothing on
+abbrev pub turn_at : Turn → Start → Ends
+turn_at g s = g s.first s.second s.next (contents nothing [])
+
+-- Where turns begin that append to the newest node alone: where one ends that begins there; what all turns up to there
+-- may have appended, but for the last ones that begin and end there; and what one of these appends.
+pub record Row : Type 0 where
+  pub start : Start
+  pub turn : Ends
+  pub arrives : List Content
+  pub stays : List Content
+
+abbrev pub any_one : List Content → Content
+any_one [] = nothing
+any_one (a ∷ []) = a
+any_one (a ∷ b ∷ cs) = either_of a (any_one (b ∷ cs))
+
+abbrev pub reached : Row → Content
+reached r = onto (any_one r.arrives) (many (any_one r.stays))
+
+-- where the next turn begins: at what comes next, or whatever comes next
+abbrev pub next_at : Bool → Bool → Bool → Ahead → Start
+next_at true c d l = begin_at c d l
+next_at false c d l = begin_at c d []
+
+-- the starts that turns lead to, from these on; at most so many
+abbrev pub start_by : Bool → Outcome → Ahead → List Start → List Start
+start_by f none_left l ss = ss
+start_by f something l ss = ss
+start_by f block l ss = ss
+start_by f (again c d) l ss = next_at f c d l ∷ ss
+
+abbrev pub starts_in : Bool → Ends → List Start
+starts_in f [] = []
+starts_in f (e ∷ k) = start_by f e.0 e.1 (starts_in f k)
+
+abbrev pub is_seen : Start → List (Start × Ends) → Bool
+is_seen s [] = false
+is_seen s (w ∷ ws) = let rest = is_seen s ws in choose (equal_start s w.0) true rest
+
+abbrev pub explored : ℕ → Bool → (Start → Ends) → List (Start × Ends) → List Start → List (Start × Ends)
+explored zero f g seen todo = seen
+explored (suc n) f g seen [] = seen
+explored (suc n) f g seen (s ∷ todo) =
+    let known = explored n f g seen todo in
+    let found = explored n f g (seen ++ (s, g s) ∷ []) (todo ++ starts_in f (g s)) in
+    choose (is_seen s seen) known found
+
+-- in an order in which each stands behind those that lead to it, where there is one
+abbrev pub is_start : Start → List Start → Bool
+is_start s [] = false
+is_start s (t ∷ ts) = let rest = is_start s ts in choose (equal_start s t) true rest
+
+abbrev pub is_reached : Bool → Start → List (Start × Ends) → Bool
+is_reached f s [] = false
+is_reached f s (w ∷ ws) = let rest = is_reached f s ws in choose (is_start s (starts_in f w.1)) true rest
+
+abbrev pub ordered : ℕ → Bool → List (Start × Ends) → List (Start × Ends)
+ordered zero f ws = ws
+ordered (suc n) f [] = []
+ordered (suc n) f (w ∷ ws) =
+    let later = ordered n f (ws ++ w ∷ []) in let now = w ∷ ordered n f ws in choose (is_reached f w.0 ws) later now
+
+-- what turns append that lead to a start, and where those from it lead
+abbrev pub arriving : Start → List (Start × Content) → List Content
+arriving s [] = []
+arriving s (w ∷ ws) = let rest = arriving s ws in choose (equal_start s w.0) (w.1 ∷ rest) rest
+
+abbrev pub stay_by : Bool → Start → Outcome → Ahead → Contents → List Content → List Content
+stay_by f s (again c d) l (contents a []) cs = let more = a ∷ cs in choose (equal_start s (next_at f c d l)) more cs
+stay_by f s v l x cs = cs
+
+abbrev pub staying : Bool → Start → Ends → List Content
+staying f s [] = []
+staying f s (e ∷ k) = stay_by f s e.0 e.1 e.2 (staying f s k)
+
+abbrev pub leave_by : Bool → Start → Content → Outcome → Ahead → Contents → List (Start × Content) →
+    List (Start × Content)
+leave_by f s r (again c d) l (contents a []) ws =
+    let more = (next_at f c d l, onto r a) ∷ ws in choose (equal_start s (next_at f c d l)) ws more
+leave_by f s r v l x ws = ws
+
+abbrev pub leaving : Bool → Start → Content → Ends → List (Start × Content)
+leaving f s r [] = []
+leaving f s r (e ∷ k) = leave_by f s r e.0 e.1 e.2 (leaving f s r k)
+
+abbrev pub solved : Bool → List (Start × Ends) → List (Start × Content) → List Row
+solved f [] ws = []
+solved f (t ∷ ts) ws =
+    let r : Row = record { start = t.0; turn = t.1; arrives = arriving t.0 ws; stays = staying f t.0 t.1 } in
+    r ∷ solved f ts (leaving f t.0 (reached r) t.1 ++ ws)
+
+abbrev pub rows_from : Bool → (Start → Ends) → Start → List Row
+rows_from f g s = solved f (ordered 40 f (explored 24 f g [] (s ∷ []))) ((s, nothing) ∷ [])
+
+-- Whether these are all: each turn appends alone, and where it goes on there is a row that says so.
+abbrev pub has_content : Content → List Content → Bool
+has_content a [] = false
+has_content a (b ∷ bs) = let rest = has_content a bs in choose (equal a b) true rest
+
+abbrev pub goes_to : Content → Start → List Row → Bool
+goes_to a t [] = false
+goes_to a t (q ∷ qs) =
+    let here = has_content a q.arrives in let rest = goes_to a t qs in
+    choose (choose (equal_start t q.start) here false) true rest
+
+abbrev pub lands : List Row → Row → Content → Start → Bool
+lands rows r a t =
+    let far = goes_to (onto (reached r) a) t rows in
+    choose (equal_start t r.start) (has_content a r.stays) far
+
+abbrev pub end_lands : Bool → List Row → Row → Outcome → Ahead → Contents → Bool
+end_lands f rows r v l astray = false
+end_lands f rows r v l (contents a (b ∷ os)) = false
+end_lands f rows r (again c d) l (contents a []) = lands rows r a (next_at f c d l)
+end_lands f rows r v l (contents a []) = true
+
+abbrev pub all_land : Bool → List Row → Row → Ends → Bool
+all_land f rows r [] = true
+all_land f rows r (e ∷ k) = let rest = all_land f rows r k in choose (end_lands f rows r e.0 e.1 e.2) rest false
+
+abbrev pub each_lands : Bool → List Row → List Row → Bool
+each_lands f rows [] = true
+each_lands f rows (r ∷ rs) = let rest = each_lands f rows rs in choose (all_land f rows r r.turn) rest false
+
+abbrev pub are_all : Bool → Start → List Row → Bool
+are_all f s rows = let rest = each_lands f rows rows in choose (goes_to nothing s rows) rest false
+
+-- the last turns from each row
 abbrev pub behind : Contents → Contents → Contents
 behind x astray = astray
 behind x (contents a []) = with_more a x
 behind x (contents a (b ∷ os)) = astray
 
-abbrev pub last_by : Outcome → Contents → Ends → Ends
-last_by none_left y l = (none_left, y) ∷ l
-last_by something y l = (something, y) ∷ l
-last_by block y l = (block, y) ∷ l
-last_by (again c d) y l = l
-
 abbrev pub lasts : Contents → Ends → Ends
 lasts x [] = []
-lasts x (e ∷ l) = last_by e.0 (behind x e.1) (lasts x l)
+lasts x (e ∷ k) = last_by e.0 e.1 (behind x e.2) (lasts x k)
+
+abbrev pub row_lasts : Contents → List Row → Ends
+row_lasts x [] = []
+row_lasts x (r ∷ rs) = pool (by_contents (with_more (reached r) x) (λ y. lasts y r.turn)) (row_lasts x rs)
+
+-- Else turns from what stands there, until nothing new may stand there; at most so many rounds.
+abbrev pub equal_ends : Ends → Ends → Bool
+equal_ends [] [] = true
+equal_ends [] (e ∷ k) = false
+equal_ends (e ∷ j) [] = false
+equal_ends (e ∷ j) (f ∷ k) =
+    let rest = equal_ends j k in let same = choose (equal_contents e.2 f.2) rest false in
+    choose (same_end e.0 e.1 f) same false
+
+abbrev pub by_ends : {A : Type 0} → Ends → (Ends → A) → A
+by_ends [] h = h []
+by_ends (e ∷ k) h = by_ahead e.1 (λ l. by_contents e.2 (λ x. by_ends k (λ j. h ((e.0, l, x) ∷ j))))
+
+abbrev pub turn_from : Turn → Outcome → Ahead → Contents → Ends
+turn_from g none_left l x = []
+turn_from g something l x = []
+turn_from g block l x = []
+turn_from g (again c d) l x = g c d l x
 
 abbrev pub any_flags : (Bool → Bool → Ends) → Ends
 any_flags f = pool (pool (f true true) (f true false)) (pool (f false true) (f false false))
 
--- the turns that go on, with what stands there, and those that end
-abbrev pub goes_by : Outcome → Contents → Contents → Contents
-goes_by none_left y x = x
-goes_by something y x = x
-goes_by block y x = x
-goes_by (again c d) y x = either y x
+abbrev pub rounds : ℕ → Turn → Ends → Ends
+rounds zero g k = dones (any_flags (λ c d. g c d [] astray))
+rounds (suc n) g k =
+    by_ends (pool (agains (gather (turn_from g) k)) k)
+    (λ j. let more = rounds n g j in choose (equal_ends j k) (dones (gather (turn_from g) k)) more)
 
-abbrev pub goes_in : Ends → Contents → Contents
-goes_in [] x = x
-goes_in (e ∷ l) x = goes_by e.0 e.1 (goes_in l x)
+-- A loop's ends: by rows, by rows whatever comes next, or else by rounds.
+abbrev pub by_rows : Bool → Turn → Start → Contents → Ends → Ends
+by_rows f g s x k =
+    choose (are_all f s (rows_from f (turn_at g) s)) (row_lasts x (rows_from f (turn_at g) s)) k
 
-abbrev pub done_in : Ends → Ends
-done_in [] = []
-done_in (e ∷ l) = last_by e.0 e.1 (done_in l)
+abbrev pub loop_ends : Turn → Bool → Bool → Ahead → Contents → Ends
+loop_ends g c d l x =
+    let last = rounds 4 g ((again c d, l, x) ∷ []) in
+    let more = by_rows false g (begin_at c d []) x last in by_rows true g (begin_at c d l) x more
 
--- Turns from what stands there, until nothing new may stand there; at most so many rounds.
-abbrev pub rounds : ℕ → (Contents → Ends) → Contents → Ends
-rounds zero g x = done_in (g astray)
-rounds (suc n) g x =
-    by_contents (goes_in (g x) x)
-    (λ y. let more = rounds n g y in choose (equal_contents y x) (done_in (g x)) more)
-
--- A loop's turns from nothing, where they append alone, else from what stands there.
-abbrev pub by_turn : Turn → Ends → (Contents → Ends) → Contents → Ends
-by_turn no_turn l g x = lasts x l
-by_turn (a_turn a) l g x = lasts (repeated (a_turn a) x) l
-by_turn lost l g x = rounds 4 g x
-
-abbrev pub loop_ends : (Contents → Ends) → Contents → Ends
-loop_ends g x = by_turn (turn_in (g (contents nothing []))) (g (contents nothing [])) g x
-
--- Where a script ends that begins so.
-abbrev pub ends : Script Rule → Contents → Ends
-ends (give v) x = (v, x) ∷ []
-ends (test h s t) x = pool (ends s x) (ends t x)
-ends (ends_with k s t) x = pool (ends s x) (ends t x)
-ends (token k s) x = by_contents (with_more (leaf_of (k ∷ [])) x) (λ y. ends s y)
-ends (any s) x = by_contents (with_more any_leaf x) (λ y. ends s y)
-ends (bear k s) x = by_contents (with_more (leaf_of (k ∷ [])) x) (λ y. ends s y)
-ends (report m s) x = by_contents (with_more spoilt x) (λ y. ends s y)
-ends (report_next m s) x = by_contents (with_more spoilt x) (λ y. ends s y)
-ends (skip m s) x = by_contents (with_more spoilt x) (λ y. ends s y)
-ends (start s) x = by_contents (opened x) (λ y. ends s y)
-ends (precede s) x = by_contents (with_last x) (λ y. ends s y)
-ends (finish k s) x = by_contents (closed k x) (λ y. ends s y)
-ends (extend s) x = by_contents (drawn x) (λ y. ends s y)
-ends (abandon s) x = by_contents (given_up x) (λ y. ends s y)
-ends (split_float s t) x = by_contents (parted x) (λ y. pool (ends s y) (ends t y))
-ends (and_then s h) x = gather (λ v y. ends (h v) y) (ends s x)
-ends (rule c h) x = gather (λ v y. ends (h v) y) (rule_ends x (brings c))
-ends (loop h a b) x = loop_ends (λ y. any_flags (λ c d. ends (h c d) y)) x
+-- Where a script ends that begins so, with what is known of the tokens that come next or without.
+abbrev pub ends : Bool → Script Rule → Ahead → Contents → Ends
+ends deep (give v) l x = (v, l, x) ∷ []
+ends deep (test h s t) l x = pool (on_ways (λ m. ends deep s m x) (learned deep h true l)) (on_ways (λ m. ends deep t m x) (learned deep h false l))
+ends deep (ends_with k s t) l x = pool (ends deep s l x) (ends deep t l x)
+ends deep (token k s) l x =
+    by_ahead (drop (width k) l) (λ m. by_contents (with_more (leaf_of (k ∷ [])) x) (λ y. ends deep s m y))
+ends deep (any s) l x = by_ahead (drop 1 l) (λ m. by_contents (with_more (next_leaf l) x) (λ y. ends deep s m y))
+ends deep (bear k s) l x = by_ahead (drop 1 l) (λ m. by_contents (with_more (leaf_of (k ∷ [])) x) (λ y. ends deep s m y))
+ends deep (report m s) l x = by_contents (with_more spoilt x) (λ y. ends deep s l y)
+ends deep (report_next m s) l x = by_contents (with_more spoilt x) (λ y. ends deep s l y)
+ends deep (skip m s) l x = by_ahead (drop 1 l) (λ m. by_contents (with_more spoilt x) (λ y. ends deep s m y))
+ends deep (start s) l x = by_contents (opened x) (λ y. ends deep s l y)
+ends deep (precede s) l x = by_contents (with_last x) (λ y. ends deep s l y)
+ends deep (finish k s) l x = by_contents (closed k x) (λ y. ends deep s l y)
+ends deep (extend s) l x = by_contents (drawn x) (λ y. ends deep s l y)
+ends deep (abandon s) l x = by_contents (given_up x) (λ y. ends deep s l y)
+ends deep (split_float s t) l x =
+    by_ahead (drop 1 l) (λ m. by_contents (parted x) (λ y. pool (ends deep s m y) (ends deep t m y)))
+ends deep (and_then s h) l x = gather (λ v m y. ends deep (h v) m y) (ends deep s l x)
+ends deep (rule c h) l x = gather (λ v m y. ends deep (h v) m y) (rule_ends x (brings c))
+ends deep (loop h a b) l x =
+    loop_ends (λ c d m y. ends deep (h c d) m y) a b l x
 
 -- Whether a content is one child, of these kinds.
 abbrev pub has_leaves : List ℕ → Content → Bool
@@ -284,8 +435,8 @@ end_among v (contents a []) (e ∷ k) =
 
 abbrev pub all_among : Ends → List (Outcome × Content) → Bool
 all_among [] k = true
-all_among (e ∷ l) k = end_among e.0 e.1 k && all_among l k
+all_among (e ∷ l) k = end_among e.0 e.2 k && all_among l k
 
 -- the ends of a script are what this rule brings
-abbrev pub brings_all : Script Rule → List (Outcome × Content) → Bool
-brings_all s k = all_among (ends s (contents nothing [])) k
+abbrev pub brings_all : Bool → Script Rule → List (Outcome × Content) → Bool
+brings_all deep s k = all_among (ends deep s [] (contents nothing [])) k

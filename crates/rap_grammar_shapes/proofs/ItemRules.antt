@@ -2,8 +2,9 @@
 use Rattle.std.proofs.Common.{Bool, refl}
 use Rattle.rap_grammar_scripts.specs.declared.rule.Rule.TheVariants as knot
 use Rattle.rap_grammar_scripts.proofs.Scripts.{scripts}
+use Rattle.rap_grammar_table.proofs.Tests.{tests}
 use Rattle.rap_grammar_shapes.proofs.Small.{Keeps}
 
 pub item_keeps : (a : Bool) (b : Bool) → Keeps (knot.ItemOrMacro a b)
-unfolding scripts
+unfolding scripts tests
 item_keeps a b = refl

@@ -15,10 +15,10 @@ is_known (contents a (b ∷ os)) = false
 
 abbrev pub all_known : Ends → Bool
 all_known [] = true
-all_known (e ∷ l) = is_known e.1 && all_known l
+all_known (e ∷ l) = is_known e.2 && all_known l
 
-abbrev pub knows : Script Rule → Bool
-knows s = all_known (ends s (contents nothing []))
+abbrev pub knows : Bool → Script Rule → Bool
+knows deep s = all_known (ends deep s [] (contents nothing []))
 
 -- Whether, besides, all that it has appended may stand under a node of a kind.
 abbrev pub may_stand : ℕ → Contents → Bool
@@ -28,7 +28,7 @@ may_stand kind (contents a (b ∷ os)) = false
 
 abbrev pub all_stand : ℕ → Ends → Bool
 all_stand kind [] = true
-all_stand kind (e ∷ l) = may_stand kind e.1 && all_stand kind l
+all_stand kind (e ∷ l) = may_stand kind e.2 && all_stand kind l
 
-abbrev pub stands_under : ℕ → Script Rule → Bool
-stands_under kind s = all_stand kind (ends s (contents nothing []))
+abbrev pub stands_under : ℕ → Bool → Script Rule → Bool
+stands_under kind deep s = all_stand kind (ends deep s [] (contents nothing []))

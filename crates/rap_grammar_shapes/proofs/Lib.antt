@@ -1,3 +1,5 @@
+pub mod Ahead
+pub mod AheadLaws
 pub mod AllRules
 pub mod Along
 pub mod Automata

@@ -10,7 +10,7 @@ use Rattle.rap_events.specs.State.{but_last, last_children, skipped}
 use Rattle.rap_grammar_scripts.specs.Script.{Spot, reported, skipped_over, started, preceded, finished, extended, abandoned, split_apart, newest, last_kind}
 use Rattle.rap_grammar_scripts.proofs.Forests.{⧺-assoc}
 use Rattle.rap_grammar_table.specs.Known.{among, every_one}
-use Rattle.rap_grammar_table.specs.Shapes.{Child, node_child, float_child, children_of}
+use Rattle.rap_grammar_table.specs.Shapes.{Child, leaf_child, node_child, float_child, children_of}
 use Rattle.rap_grammar_table.proofs.Known.{every_so}
 use Rattle.rap_grammar_table.proofs.Look.{same_self}
 use Rattle.rap_grammar_table.proofs.Shaped.{OfChildren, AllSo, all_so-⧺}
@@ -86,11 +86,11 @@ pub is_leaf : (base : Forest) (stack : List Forest) (k w : ℕ) (x : Contents) (
 is_leaf base stack k w x p q e i h =
     is_more base stack (leaf_of (k ∷ [])) x p q (leaf none k w) e i (a_leaf (one_kind k)) tt h
 
--- Any token is taken.
-pub is_any : (base : Forest) (stack : List Forest) (k w : ℕ) (x : Contents) (p q : Spot) →
-    q.forest ≡ leaf p.forest k w →
-    q.below ≡ p.below → Is base stack x p → Is base stack (with_more any_leaf x) q
-is_any base stack k w x p q e i h = is_more base stack any_leaf x p q (leaf none k w) e i some_leaf tt h
+-- Whatever token comes next is taken.
+pub is_any : (base : Forest) (stack : List Forest) (a : Content) (k w : ℕ) (x : Contents) (p q : Spot) →
+    q.forest ≡ leaf p.forest k w → q.below ≡ p.below → Holds a (leaf_child k ∷ []) → Is base stack x p →
+    Is base stack (with_more a x) q
+is_any base stack a k w x p q e i s h = is_more base stack a x p q (leaf none k w) e i s tt h
 
 -- A message is reported.
 pub is_reported : (base : Forest) (stack : List Forest) (m : List ℕ) (x : Contents) (p : Spot) → Is base stack x p →

@@ -1,8 +1,9 @@
 -- Which children the nodes of a forest have.
-use Rattle.std.specs.Prelude.{◌≡◌, ◌⊎◌, ℕ, true, false, List}
+use Rattle.std.specs.Prelude.{◌≡◌, ◌⊎◌, ℕ, true, false, List, All}
 use Rattle.rap_base.specs.NodeKind.{SOURCE_FILE, MACRO_ITEMS, MACRO_STMTS}
 use Rattle.rap_base.specs.TokenKind.{ERROR}
 use Rattle.rap_events.specs.Forest.{Forest, none, node}
+use Rattle.rap_events.specs.Record.{IsTokenRecord}
 use Rattle.rap_grammar_core.specs.StandsIn.{NodeAt}
 use Rattle.rap_grammar_scripts.specs.Adt.{record_field_list, variant_list}
 use Rattle.rap_grammar_scripts.specs.Blocks.{block_expr}
@@ -44,10 +45,11 @@ HaveShapesWithin output =
 abbrev pub RowsFit : Type 0
 RowsFit = (kind : ℕ) (children : List Child) → Spells (shape kind) children → Spells (shape_of kind) children
 
--- What a script adds, however it runs, is so: if all nodes were so before, they are so at its end.
+-- What a script adds, however it runs over tokens, is so: if all nodes were so before, they are so at its end.
 abbrev pub KeepsShapes : Script Rule → Type 0
 KeepsShapes s =
-    (p q : Spot) (v : Outcome) → Runs script_of s p q v → HaveShapes p.forest → HaveShapes q.forest
+    (p q : Spot) (v : Outcome) → All IsTokenRecord p.rest → Runs script_of s p q v → HaveShapes p.forest →
+    HaveShapes q.forest
 
 -- So is whatever a recursive rule makes of any input.
 abbrev pub RulesKeepShapes : Type 0
@@ -56,7 +58,8 @@ RulesKeepShapes = (rule : Rule) → KeepsShapes (script_of rule)
 -- What a script makes under a node that holds nothing yet is so, and the node of this kind over it is so too.
 abbrev pub MakesNode : ℕ → Script Rule → Type 0
 MakesNode kind s =
-    (p q : Spot) (v : Outcome) → Runs script_of s p q v → p.forest ≡ none → HaveShapes (node none kind q.forest)
+    (p q : Spot) (v : Outcome) → All IsTokenRecord p.rest → Runs script_of s p q v → p.forest ≡ none →
+    HaveShapes (node none kind q.forest)
 
 -- The entries that make a node over the whole input.
 pub record RootsHaveShapes : Type 0 where

@@ -6,10 +6,12 @@ ghost use Rattle.rap_lexer.specs.Class.{is_ascii_in};
 ghost use Rattle.rap_lexer.specs.Common.{is_contextual, is_lone, begins_white, ends_no_word, is_uncommon, IsCommon};
 ghost use Rattle.rap_lexer.specs.First.{First, single_kind};
 ghost use Rattle.rap_lexer.specs.Lexeme.{plain};
+ghost use Rattle.rap_lexer.specs.Run.{run_of};
 ghost use Rattle.rap_base.specs.declared.edition.Edition.{Edition};
 ghost use Rattle.rap_lexer.specs.declared.lexer.run.Class.TheVariants.{White, IdentStart, IdentContinue};
 
 use crate::lexer::lanes::{white_run, word_run};
+use crate::lexer::run::{Class, is_ascii_in};
 use crate::lexer::word::common_word;
 use rap_base::edition::Edition;
 use rap_base::syntax_kind::SyntaxKind;
@@ -139,7 +141,7 @@ fn word_token(edition: Edition, text: &str) -> Option<CommonToken>
     ensures contextual { IfSome result (λ r. r.is_contextual ≡ is_contextual r.kind (slice_range text.now 0 r.len)) }
 {
     let bytes = text.as_bytes();
-    let n = word_run(bytes);
+    let n = word_len(bytes);
     if n < bytes.len() && OTHER < class_of(bytes[n]) {
         None
     } else {
@@ -149,6 +151,22 @@ fn word_token(edition: Edition, text: &str) -> Option<CommonToken>
             len: n,
             is_contextual,
         })
+    }
+}
+
+/// How many bytes of an identifier in ASCII stand first.
+///
+/// One letter alone is told by the byte after it. So where the next token begins need not wait for the comparison of
+/// sixteen bytes.
+#[inline(always)]
+fn word_len(bytes: &[u8]) -> usize
+    requires { is_ascii_in IdentStart (get_or bytes.now 0 0) ≡ true }
+    ensures { result ≡ length (run_of (is_ascii_in IdentContinue) bytes.now) }
+{
+    if 1 < bytes.len() && !is_ascii_in(Class::IdentContinue, bytes[1]) {
+        1
+    } else {
+        word_run(bytes)
     }
 }
 

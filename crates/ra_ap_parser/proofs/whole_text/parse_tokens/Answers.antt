@@ -3,7 +3,7 @@ use Rattle.ra_ap_parser.proofs.whole_text.parse_tokens.Goals as goal
 
 pub returns-in-Ok-parse-clause-parsed : goal.returns-in-Ok-parse-clause-parsed
 returns-in-Ok-parse-clause-parsed g c =
-    parsed_tokens c.args.text.now c.args.edition c.args.entry c.in-Ok.lexed c.in-Ok-to_input.input c.in-Ok-parse.output (λ l. cc (c.in-Ok.ensures.too_long.1 l)) c.in-Ok.ensures.lexing c.in-Ok-to_input.ensures.records (λ l. cc (c.in-Ok-parse.ensures.too_many.1 l)) c.in-Ok-parse.ensures.tree c.in-Ok-parse.ensures.script c.iter-steps.ensures.splits c.len-count.ensures.tokens c.in-Ok-to_input.ensures.count
+    parsed_tokens c.args.text.now c.args.edition c.args.entry c.in-Ok.lexed c.in-Ok-to_input.input c.in-Ok-parse.output (λ l. cc (c.in-Ok.ensures.too_long.1 l)) c.in-Ok.ensures.lexing c.in-Ok-to_input.ensures.records (λ l. cc (c.in-Ok-parse.ensures.too_many.1 l)) c.in-Ok-parse.ensures.tree c.in-Ok-parse.ensures.script c.in-Ok-parse.ensures.shapes c.iter-steps.ensures.splits c.len-count.ensures.tokens c.in-Ok-to_input.ensures.count
 
 pub returns-in-Ok-parse-clause-too_many : goal.returns-in-Ok-parse-clause-too_many
 returns-in-Ok-parse-clause-too_many g c =

@@ -12,7 +12,7 @@ returns-in-Ok-clause-core c =
     rw (sym c.self.view_is) (λ front rest tree e d. part_core _ _ c.in-Ok.ensures.script front rest tree e d)
 
 pub returns-in-Ok-clause-shapes : goal.returns-in-Ok-clause-shapes
-returns-in-Ok-clause-shapes c = part_shapes c.self.inside.part _ _ c.in-Ok.ensures.script
+returns-in-Ok-clause-shapes c = part_shapes c.self.inside.part _ _ c.has_too_many_tokens.ensures.tokens c.in-Ok.ensures.script
 
 pub returns-in-Ok-clause-again : goal.returns-in-Ok-clause-again
 returns-in-Ok-clause-again c = rw (sym c.self.view_is) (part_again _ _ c.self.invariant c.in-Ok.ensures.script)
