@@ -10,6 +10,7 @@ use Rattle.rap_events.specs.Cover.{covers}
 use Rattle.rap_events.specs.Forest.{Forest, flat, splits_placed, used}
 use Rattle.rap_events.specs.Record.{Record}
 use Rattle.rap_grammar.specs.Top.{IsTreeOver}
+use Rattle.rap_grammar_shapes.specs.HaveShapes.{HaveShapesWithin}
 use Rattle.rap_lexed.proofs.Covered.{answers-tree}
 use Rattle.rap_lexed.proofs.FewSteps.{few-tree}
 use Rattle.rap_lexed.proofs.Joined.{joined-whole, one-tree}
@@ -42,16 +43,16 @@ pub record IsWhole (text : List ℕ) (edition : Edition) (entry : TopEntryPoint)
   pub joined : str_joined (with_trivia lexed.tokens f) ≡ text
 
 pub whole_is : (text : List ℕ) (edition : Edition) (entry : TopEntryPoint) (lexed : Lexed) (input : List Record) (f : Forest) → (4294967295 < length text → ⊥) → IsLexing text edition lexed
-    → input ≡ records lexed.tokens edition → (max_tokens < length input → ⊥) → IsTreeOver input f → IsOutputOf entry input f → splits_placed f ≡ true → AreTokens lexed.tokens → length input ≡ significant lexed.tokens
+    → input ≡ records lexed.tokens edition → (max_tokens < length input → ⊥) → IsTreeOver input f → IsOutputOf entry input f → HaveShapesWithin f → splits_placed f ≡ true → AreTokens lexed.tokens → length input ≡ significant lexed.tokens
     → IsWhole text edition entry lexed f
-whole_is text edition entry lexed input f small lexing same few over made splits tokens count =
+whole_is text edition entry lexed input f small lexing same few over made shapes splits tokens count =
     let ts : List Token = lexed.tokens in
     let covering : covers (records ts edition) f ≡ true = subst (λ rs. covers rs f ≡ true) same over.forest.covers in
     let answers = answers-tree ts edition f over.one covering in
     let all : used f ≡ significant ts = over.forest.used ∙ count in
     record {
       parsed =
-          parsed text edition entry lexed input f small lexing same few over made (one-tree ts f over.one) tokens count
+          parsed text edition entry lexed input f small lexing same few over made shapes (one-tree ts f over.one) tokens count
           (omega (arith, answers.within, few-tree ts f over.one (tree f splits)));
       joined = joined-whole ts f over.one (tree f splits) answers.touch (sym (answers.at_end all)) ∙ lexing.whole;
     }

@@ -7,7 +7,7 @@ pub returns-in-Ok-parse-clause-parsed : goal.returns-in-Ok-parse-clause-parsed
 returns-in-Ok-parse-clause-parsed c =
     let w : IsWhole c.args.text.now c.args.edition c.args.entry c.in-Ok.lexed c.in-Ok-parse.output =
     whole_is c.args.text.now c.args.edition c.args.entry c.in-Ok.lexed c.in-Ok-to_input.input c.in-Ok-parse.output (λ l. cc (c.in-Ok.ensures.too_long.1 l)) c.in-Ok.ensures.lexing
-    c.in-Ok-to_input.ensures.records (λ l. cc (c.in-Ok-parse.ensures.too_many.1 l)) c.in-Ok-parse.ensures.tree c.in-Ok-parse.ensures.script c.iter-steps.ensures.splits c.len-count.ensures.tokens
+    c.in-Ok-to_input.ensures.records (λ l. cc (c.in-Ok-parse.ensures.too_many.1 l)) c.in-Ok-parse.ensures.tree c.in-Ok-parse.ensures.script c.in-Ok-parse.ensures.shapes c.iter-steps.ensures.splits c.len-count.ensures.tokens
     c.in-Ok-to_input.ensures.count in
     w.parsed
 
@@ -15,7 +15,7 @@ pub returns-in-Ok-parse-clause-joined : goal.returns-in-Ok-parse-clause-joined
 returns-in-Ok-parse-clause-joined c =
     let w : IsWhole c.args.text.now c.args.edition c.args.entry c.in-Ok.lexed c.in-Ok-parse.output =
     whole_is c.args.text.now c.args.edition c.args.entry c.in-Ok.lexed c.in-Ok-to_input.input c.in-Ok-parse.output (λ l. cc (c.in-Ok.ensures.too_long.1 l)) c.in-Ok.ensures.lexing
-    c.in-Ok-to_input.ensures.records (λ l. cc (c.in-Ok-parse.ensures.too_many.1 l)) c.in-Ok-parse.ensures.tree c.in-Ok-parse.ensures.script c.iter-steps.ensures.splits c.len-count.ensures.tokens
+    c.in-Ok-to_input.ensures.records (λ l. cc (c.in-Ok-parse.ensures.too_many.1 l)) c.in-Ok-parse.ensures.tree c.in-Ok-parse.ensures.script c.in-Ok-parse.ensures.shapes c.iter-steps.ensures.splits c.len-count.ensures.tokens
     c.in-Ok-to_input.ensures.count in
     w.joined
 
