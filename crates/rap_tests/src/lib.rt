@@ -21,6 +21,8 @@ mod frontmatter_error;
 #[cfg(test)]
 mod lexed_str;
 #[cfg(test)]
+mod literals;
+#[cfg(test)]
 mod shortcuts;
 #[cfg(test)]
 mod strip;
