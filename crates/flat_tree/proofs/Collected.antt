@@ -1,14 +1,17 @@
 -- What a collector holds along the steps of a tree.
 use Rattle.std.proofs.Common.{◌≡◌, ℕ, List, [], ◌∷◌, ◌++◌, refl, ap, subst, sym, ◌∙◌, Bool, append_assoc, append-nil, length, map}
+use Rattle.std.specs.Prelude.{◌↔◌, IsTrue}
 use Rattle.rap_base.specs.declared.edition.Edition.{Edition}
 use Rattle.std.specs.List.Sorted.{IsNonDecreasingBy}
 use Rattle.rap_lexed.specs.ErrorSteps.{error_steps}
-use Rattle.rap_lexed.specs.LexedStr.{Lexed, Message, Token, start_of}
-use Rattle.rap_lexed.specs.StrForest.{str_flat}
+use Rattle.rap_events.specs.Forest.{Forest, used}
+use Rattle.rap_lexed.specs.LexedStr.{Lexed, Message, Token, joined, start_of}
+use Rattle.rap_lexed.specs.StrForest.{str_flat, str_joined}
 use Rattle.rap_lexed.specs.StrSink.{Takes}
 use Rattle.rap_lexed.specs.StrStep.{StrStepValue}
-use Rattle.rap_lexed.specs.Trivia.{with_trivia}
-use Rattle.ra_ap_parser.specs.Headline.{Headline}
+use Rattle.rap_lexed.specs.Trivia.{significant, with_trivia}
+use Rattle.ra_ap_parser.specs.Headline.{Headline, IsParsed}
+use Rattle.ra_ap_parser.proofs.Parsed.{headed}
 use Rattle.ra_ap_parser.specs.declared.entry_point.TopEntryPoint.{TopEntryPoint}
 use Rattle.rap_ranged.proofs.MessageOrder.{merged_in_order}
 use Rattle.rap_ranged.specs.MergedMessages.{merged}
@@ -16,6 +19,7 @@ use Rattle.rap_ranged.specs.Ranged.{Ranged}
 use Rattle.rap_ranged.specs.RangedForest.{RangedNode}
 use Rattle.rap_ranged.specs.RangedMessages.{RangedMessage, ranged_message}
 use Rattle.rap_ranged.specs.Reports.{ReportValue, reports_of_step, reports_of, lexer_reports}
+use Rattle.rap_ranged.specs.Seats.{AreSeated}
 use Rattle.flat_tree.specs.Building.{Builds, building}
 use Rattle.flat_tree.specs.Built.{IsOver}
 use Rattle.flat_tree.specs.Collects.{Collects}
@@ -45,14 +49,24 @@ errors_are ts (m ∷ ms) = ap (λ l. record { text = m.text; at = start_of ts m.
 pub errors_along : (ts : List Token) (ms : List Message) (s t : Collector) → s.reports.items ≡ [] → Takes Collects s (error_steps ts ms) t → t.reports.items ≡ lexer_reports ts ms
 errors_along ts ms s t none h = reports_along (error_steps ts ms) s t h ∙ (ap (λ l. l ++ reports_of (error_steps ts ms)) none ∙ errors_are ts ms)
 
+-- what was handed out of the tree of an output
+abbrev pub headed_by : (text : List ℕ) (edition : Edition) (entry : TopEntryPoint) (lexed : Lexed) (f : Forest) (all : Bool) (s t : Collector)
+    → IsParsed text edition entry lexed f → Takes Collects s (str_flat (with_trivia lexed.tokens f)) t
+    → (IsTrue all ↔ (used f ≡ significant lexed.tokens)) → (IsTrue all → str_joined (with_trivia lexed.tokens f) ≡ joined lexed.tokens)
+    → Headline Collects text edition entry lexed all s t
+headed_by text edition entry lexed f all s t p taken answer whole =
+    let h = headed Collects text edition entry lexed f all s t p taken answer whole in
+    record { forest = f; parsed = p; taken = taken; whole = whole h.all ∙ p.lexing.whole; all = h.all }
+
 -- with the lexer's messages it is the tree of the text
 pub text_tree : (text : List ℕ) (edition : Edition) (entry : TopEntryPoint) (lexed : Lexed) (all : Bool) (s t : Collector) (es : List Element) (of_lexer : List ReportValue) (messages : List RangedMessage)
     → building s.builder ≡ held [] no_parent 0 → s.reports.items ≡ [] → (h : Headline Collects text edition entry lexed all s t)
     → es ≡ (building t.builder).elements → of_lexer ≡ lexer_reports lexed.tokens lexed.errors
     → ((root : RangedNode) → Ranged (with_trivia lexed.tokens h.forest) root → es ≡ elements_of_tree root
     → messages ≡ merged (map (ranged_message root.children) t.reports.items) (map (ranged_message root.children) of_lexer))
+    → AreSeated 0 (with_trivia lexed.tokens h.forest)
     → IsFlatText text edition entry es messages
-text_tree text edition entry lexed all s t es of_lexer messages e none h is more placed =
+text_tree text edition entry lexed all s t es of_lexer messages e none h is more placed seats =
     let f = with_trivia lexed.tokens h.forest in
     let taken = builds_along (str_flat f) s t h.taken in
     let over : IsOver text text f es = over_of f s.builder t.builder text es h.parsed.str_one e taken is h.whole in
@@ -70,6 +84,7 @@ text_tree text edition entry lexed all s t es of_lexer messages e none h is more
       parsed = h.parsed;
       ranged = over.ranged;
       elements = over.elements;
+      seated = seats;
       start = over.start;
       end = over.end;
       places = over.places;

@@ -4,6 +4,7 @@ pub mod Climbing
 pub mod Collected
 pub mod Coverings
 pub mod Cuts
+pub mod Faults
 pub mod Kin
 pub mod LeafLists
 pub mod Links
@@ -12,6 +13,7 @@ pub mod MergeLaw
 pub mod Messages
 pub mod Moving
 pub mod Nested
+pub mod NodeShapes
 pub mod Pairs
 pub mod Passing
 pub mod Placed

@@ -7,5 +7,6 @@ pub mod FlatTree
 pub mod Laws
 pub mod LeavesOf
 pub mod Navigation
+pub mod NodeShapes
 pub mod Order
 pub mod TextTree

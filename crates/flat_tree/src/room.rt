@@ -1,5 +1,8 @@
 //! For how many nodes and leaves of a text's tree a list gets room before its first step.
 
+ghost use Rattle.std.specs.Prelude.{◌≡◌, true};
+ghost use Rattle.rap_events.specs.Forest.{splits_placed};
+
 use rap_base::room::doubled;
 use rap_events::output::Output;
 use rap_lexed::lexed_str::LexedStr;
@@ -20,7 +23,9 @@ impl Room {
     /// It is not inlined, so that the walk which fills the list keeps its registers: else that took a twentieth
     /// more instructions.
     #[inline(never)]
-    pub(crate) fn of(self, lexed: &LexedStr<'_>, output: &Output) -> usize {
+    pub(crate) fn of(self, lexed: &LexedStr<'_>, output: &Output) -> usize
+        ensures { splits_placed output.now ≡ true }
+    {
         let used = output.used();
         let steps = output.iter();
         let trivia = lexed.len().saturating_sub(used);

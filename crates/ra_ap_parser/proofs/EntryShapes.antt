@@ -1,13 +1,17 @@
 -- What an entry makes has the shapes of its kinds.
-use Rattle.std.proofs.Common.{inl, inr, ℕ, Bool, true, false, List, [], ◌∷◌, All, refl, subst, sym}
+use Rattle.std.proofs.Common.{◌≡◌, ◌⊎◌, inl, inr, ℕ, Bool, true, false, List, [], ◌∷◌, All, refl, subst, sym, arith}
 use Rattle.rap_base.specs.NodeKind.{SOURCE_FILE, MACRO_ITEMS, MACRO_STMTS}
 use Rattle.rap_base.specs.TokenKind.{ERROR}
-use Rattle.rap_events.specs.Forest.{Forest, none, node, leaf, one_tree}
+use Rattle.rap_events.specs.Forest.{Forest, none, node, leaf, message_count, one_tree}
 use Rattle.rap_events.specs.Record.{Record, IsTokenRecord}
-use Rattle.rap_grammar_core.specs.StandsIn.{last_node, in_last_node, before_node, before_leaf}
+use Rattle.rap_grammar_core.specs.StandsIn.{NodeAt, last_node, in_last_node, before_node, before_leaf}
 use Rattle.rap_grammar_scripts.specs.Script.{Script}
 use Rattle.rap_grammar_scripts.specs.declared.rule.Rule.{Rule}
 use Rattle.rap_grammar_shapes.specs.HaveShapes.{HaveShapes, HaveShapesWithin, KeepsShapes, MakesNode}
+use Rattle.rap_grammar_shapes.specs.Shapes.{shape_of}
+use Rattle.rap_grammar_shapes.specs.Spelled.{spelled_children}
+use Rattle.rap_grammar_shapes.specs.Whole.{IsWhole}
+use Rattle.rap_grammar_table.specs.Shapes.{children_of, Spells}
 use Rattle.rap_grammar_shapes.proofs.AllRules.{from_none}
 use Rattle.rap_grammar_shapes.proofs.EntryRules.{alone_so, roots_so}
 use Rattle.rap_grammar.specs.Part.{IsPrefixOf, part_script}
@@ -22,21 +26,50 @@ use Rattle.ra_ap_parser.specs.declared.entry_point.TopEntryPoint.TheVariants as 
 
 -- all nodes are so
 all_within : (f : Forest) → HaveShapes f → HaveShapesWithin f
-all_within f h place kind children n w = inr (h place kind children n w)
+all_within f h =
+    record {
+      shapes = λ place kind children n w. inr (h.shapes place kind children n w);
+      told = λ z place children n. absurd (h.told z place children n);
+    }
 
 -- all but the `ERROR` over them
+shapes_under : (f : Forest) → HaveShapes f → (place kind : ℕ) (children : Forest) →
+    NodeAt (node none ERROR f) place kind children → IsWhole (children_of children) →
+    (node none ERROR f ≡ node none ERROR children) ⊎ Spells (shape_of kind) (spelled_children children)
+shapes_under f h place kind children last_node w = inl refl
+shapes_under f h place kind children (in_last_node n) w = inr (h.shapes _ kind children n w)
+shapes_under f h place kind children (before_node n) w = elim n [ ]
+
+told_under : (f : Forest) → HaveShapes f → message_count (node none ERROR f) ≡ 0 → (place kind : ℕ)
+    (children : Forest) → NodeAt (node none ERROR f) place kind children → kind ≡ ERROR →
+    node none ERROR f ≡ node none ERROR children
+told_under f h z place kind children last_node e = refl
+told_under f h z place kind children (in_last_node {tokens = m} n) e =
+    absurd (h.told (omega (arith, z)) m children (subst (λ (k : ℕ). NodeAt f m k children) e n))
+told_under f h z place kind children (before_node n) e = elim n [ ]
+
 within_error : (f : Forest) → HaveShapes f → HaveShapesWithin (node none ERROR f)
-within_error f h place kind children last_node w = inl refl
-within_error f h place kind children (in_last_node n) w = inr (h _ kind children n w)
-within_error f h place kind children (before_node n) w = elim n [ ]
+within_error f h =
+    record {
+      shapes = λ place kind children n w. shapes_under f h place kind children n w;
+      told = λ z place children n. told_under f h z place ERROR children n refl;
+    }
 
 kept_within : (b : Bool) (f : Forest) → HaveShapes f → HaveShapesWithin (kept b f)
 kept_within true f h = all_within f h
 kept_within false f h = within_error f h
 
 -- leaves are no nodes
+node_before : (f : Forest) (kind width place k : ℕ) (children : Forest) → NodeAt (leaf f kind width) place k children →
+    NodeAt f place k children
+node_before f kind width place k children (before_leaf n) = n
+
 leaf_more : (f : Forest) (kind width : ℕ) → HaveShapes f → HaveShapes (leaf f kind width)
-leaf_more f kind width h place k children (before_leaf n) w = h place k children n w
+leaf_more f kind width h =
+    record {
+      shapes = λ place k children n w. h.shapes place k children (node_before f kind width place k children n) w;
+      told = λ z place children n. h.told z place children (node_before f kind width place ERROR children n);
+    }
 
 leaves_more : (f : Forest) (rest : List Record) → HaveShapes f → HaveShapes (with_leaves f rest)
 leaves_more f [] h = h

@@ -95,7 +95,8 @@ impl TopEntryPoint {
     /// otherwise `NoMemory` if the allocator refused a request. The tree is that of the entry's script, and no other.
     /// Each node that has no message and no `ERROR` right under it has children that the shape of its kind spells, in
     /// order, of right and of wrong inputs; but an `ERROR` over everything, which an entry puts around what it did not
-    /// read as one tree, may hold anything. What the shapes are is in docs/NODES.md.
+    /// read as one tree, may hold anything. Where there is no message, no other node is an `ERROR`. What the shapes are
+    /// is in docs/NODES.md.
     ///
     /// An input that the core grammar derives gives its derivation's tree, without a message: under `SourceFile` as a
     /// file, under `Expr` as an expression, under `Ty` as a type, under `Pattern` as a pattern and under `MetaItem` as
@@ -189,11 +190,11 @@ impl PrefixEntryPoint {
     /// sum of the `n_input_tokens` of its steps, and one for each float that is split. The error is `TooManyTokens`
     /// exactly for an input of more than [`MAX_TOKENS`] tokens, which is tested first; otherwise `NoMemory` if the
     /// allocator refused a request. The output is that of the entry's script, and no other. Each of its nodes that has
-    /// no message and no `ERROR` right under it has children that the shape of its kind spells, in order. If the core
-    /// grammar derives a prefix of the input and the next tokens can follow it, the output is the tree of the
-    /// derivation, without a message, and takes that prefix. It may be a block, a type, an expression, an item, a
-    /// pattern with or without alternatives, what stands in the brackets of an attribute, the path of a type, a
-    /// visibility, or a statement without its semicolon.
+    /// no message and no `ERROR` right under it has children that the shape of its kind spells, in order; where there
+    /// is no message, no node is an `ERROR`. If the core grammar derives a prefix of the input and the next tokens can
+    /// follow it, the output is the tree of the derivation, without a message, and takes that prefix. It may be a
+    /// block, a type, an expression, an item, a pattern with or without alternatives, what stands in the brackets of an
+    /// attribute, the path of a type, a visibility, or a statement without its semicolon.
     pub fn parse(&self, alloc: Global, input: &Input) -> Result<Output, ParseFault>
         ensures prefix { IfOk result (IsPrefixOver input.now) }
         ensures script { IfOk result (IsPrefixOutputOf self.now input.now) }

@@ -156,14 +156,14 @@ impl Reparser {
     /// If the input begins with `{`, the output is exactly one node, of the reparser's kind. Tokens after its closing
     /// brace are left. No node at the output's top ends with a float that ends in a dot: the node of such a float
     /// stands in another node. Each node that has no message and no `ERROR` right under it has children that the shape
-    /// of its kind spells, in order. What the core grammar derives as the node is its derivation's tree again, without
-    /// a message: a block, any list in braces that has a reparser, or a token tree, which is any tokens whose brackets
-    /// are balanced, in brackets. So such a node in the tree of anything that the core grammar derives is itself again
-    /// when it is parsed from its own tokens, if it begins with a brace, as a block with a label does not. So does each
-    /// in a tree of the grammar's relation, and in a macro call: the law
-    /// [`holds_in_table`](crate::table_laws::holds_in_table) says that its own tokens are derived. The error is
-    /// `TooManyTokens` exactly for an input of more than [`MAX_TOKENS`] tokens, which is tested first; otherwise
-    /// `NoMemory` if the allocator refused a request.
+    /// of its kind spells, in order; where there is no message, no node is an `ERROR`. What the core grammar derives as
+    /// the node is its derivation's tree again, without a message: a block, any list in braces that has a reparser, or
+    /// a token tree, which is any tokens whose brackets are balanced, in brackets. So such a node in the tree of
+    /// anything that the core grammar derives is itself again when it is parsed from its own tokens, if it begins with
+    /// a brace, as a block with a label does not. So does each in a tree of the grammar's relation, and in a macro
+    /// call: the law [`holds_in_table`](crate::table_laws::holds_in_table) says that its own tokens are derived. The
+    /// error is `TooManyTokens` exactly for an input of more than [`MAX_TOKENS`] tokens, which is tested first;
+    /// otherwise `NoMemory` if the allocator refused a request.
     pub fn parse(self, alloc: Global, input: &Input) -> Result<Output, ParseFault>
         requires brace { asks_brace self ≡ true → next_kind input.now ≡ L_CURLY }
         ensures prefix { IfOk result (IsPrefixOver input.now) }

@@ -103,15 +103,18 @@ ways [] = []
 ways (p ∷ ps) = with_way (brief p) (ways ps)
 
 -- What is known where a test has this answer: the ways in which the tokens may go on then, none where it cannot have it.
--- Where it does not hold, this says something of tokens alone of which something is known. Where a script is computed
--- without what comes next, nothing is.
+-- Where it does not hold, this says something of tokens alone of which something is known. A test of the operator says
+-- nothing here: it may ask for a power that is not known.
 abbrev pub asked : Bool → Test → Ahead → List Place
 asked true h l = filled (reach h) l
 asked false h l = places l
 
-abbrev pub learned : Bool → Test → Bool → Ahead → List Ahead
-learned false h b l = l ∷ []
-learned true h b l = ways (narrowed h b (asked b h l))
+abbrev pub is_of_operator : Test → Bool
+is_of_operator (operator_so f) = true
+is_of_operator t = false
+
+abbrev pub learned : Test → Bool → Ahead → List Ahead
+learned h b l = let more = ways (narrowed h b (asked b h l)) in choose (is_of_operator h) (l ∷ []) more
 
 -- What follows is computed of what is known, which is computed itself.
 abbrev pub by_list : {A : Type 0} → List ℕ → (List ℕ → A) → A

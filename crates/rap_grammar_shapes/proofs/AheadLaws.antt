@@ -14,7 +14,7 @@ use Rattle.rap_grammar_table.specs.Shapes.{leaf_child}
 use Rattle.rap_grammar_table.proofs.Known.{by_truth, nothing_known, shows_drop}
 use Rattle.rap_grammar_table.proofs.Look.{same_self}
 use Rattle.rap_grammar_table.proofs.Narrow.{narrowed_sees}
-use Rattle.rap_grammar_shapes.proofs.Ahead.{Ahead, of_kinds, places, Comes, kinds_below, all_kinds, or_all, filled, reach, if_few, few_of, before_more, brief, equal_option, equal_ahead, is_way_of, with_way, ways, asked, learned, by_list, by_option, by_ahead, next_leaf}
+use Rattle.rap_grammar_shapes.proofs.Ahead.{Ahead, of_kinds, places, Comes, kinds_below, all_kinds, or_all, filled, reach, if_few, few_of, before_more, brief, equal_option, equal_ahead, is_way_of, with_way, ways, asked, is_of_operator, learned, by_list, by_option, by_ahead, next_leaf}
 use Rattle.rap_grammar_shapes.proofs.Content.{Holds, a_leaf, some_leaf, equal_kinds}
 use Rattle.rap_grammar_shapes.proofs.ContentLaws.{by_choice, by_chosen, by_either, equal_kinds_so}
 
@@ -134,11 +134,12 @@ asked_so true h l rs t s = filled_so (reach h) l rs t s
 asked_so false h l rs t s = s
 
 -- What a test says is so.
-pub learned_so : (d : Bool) (h : Test) (b : Bool) (l : Ahead) (rs : List Record) → All IsTokenRecord rs →
-    Comes l rs → holds h rs ≡ b → Goes (learned d h b l) rs
-learned_so false h b l rs t s e = this_going s
-learned_so true h b l rs t s e =
-    ways_so (narrowed h b (asked b h l)) rs (narrowed_sees h b (asked b h l) rs (asked_so b h l rs t s) e)
+pub learned_so : (h : Test) (b : Bool) (l : Ahead) (rs : List Record) → All IsTokenRecord rs →
+    Comes l rs → holds h rs ≡ b → Goes (learned h b l) rs
+learned_so h b l rs t s e =
+    by_choice (λ (ls : List Ahead). Goes ls rs) (is_of_operator h) (l ∷ []) (ways (narrowed h b (asked b h l)))
+    (λ i. this_going s)
+    (λ i. ways_so (narrowed h b (asked b h l)) rs (narrowed_sees h b (asked b h l) rs (asked_so b h l rs t s) e))
 
 -- tokens that are taken
 places-drop : (n : ℕ) (l : Ahead) → places (drop n l) ≡ drop n (places l)

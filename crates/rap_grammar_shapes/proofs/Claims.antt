@@ -1,5 +1,5 @@
 -- What each recursive rule appends.
-use Rattle.std.specs.Prelude.{Bool, true, false, List, [], ◌∷◌}
+use Rattle.std.specs.Prelude.{List, [], ◌∷◌}
 use Rattle.rap_base.specs.NodeKind.{ASSOC_TYPE_ARG, CFG_ATOM, CFG_COMPOSITE, CONST_ARG, DYN_TRAIT_TYPE, GENERIC_PARAM_LIST, IF_EXPR, LIFETIME_ARG, PATH_TYPE, TOKEN_TREE, TYPE_ARG, TYPE_BOUND_LIST, USE_TREE, WHERE_CLAUSE}
 use Rattle.rap_base.specs.TokenKind.{SEMICOLON}
 use Rattle.rap_grammar_scripts.specs.Script.{Outcome, nothing as none_left, something, block}
@@ -27,10 +27,3 @@ brings knot.UseTree = (something, node_of (USE_TREE ∷ [])) ∷ []
 brings knot.Meta = (something, node_of metas) ∷ []
 brings knot.CfgPredicate = (something, node_of (CFG_ATOM ∷ CFG_COMPOSITE ∷ [])) ∷ []
 brings knot.TokenTree = (something, node_of (TOKEN_TREE ∷ [])) ∷ []
-
--- Whether a rule's script is computed with what is known of the tokens that come next.
-abbrev pub looks : Rule → Bool
-looks (knot.ExprBp r bp) = false
-looks (knot.Stmt s) = false
-looks (knot.ItemOrMacro a b) = false
-looks c = true

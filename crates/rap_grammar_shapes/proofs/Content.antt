@@ -1,11 +1,35 @@
 -- What may stand under an open node, by the kinds of its children.
 use Rattle.std.specs.Prelude.{◌≡◌, ◌==◌, ◌||◌, ℕ, Bool, true, false, List, [], ◌∷◌, ◌++◌, Option, Some, None}
+use Rattle.rap_base.specs.TokenKind.{ERROR}
 use Rattle.rap_grammar_table.specs.Known.{among}
-use Rattle.rap_grammar_table.specs.Shapes.{Child, leaf_child, node_child, float_child}
+use Rattle.rap_grammar_table.specs.Shapes.{Child, leaf_child, node_child, message_child, float_child}
 use Rattle.rap_grammar_shapes.specs.Whole.{are_sound}
 
+-- whether a message is among these children
+abbrev pub is_message : Child → Bool
+is_message (leaf_child kind) = false
+is_message (node_child kind) = false
+is_message message_child = true
+is_message float_child = false
+
+abbrev pub has_message : List Child → Bool
+has_message [] = false
+has_message (c ∷ cs) = is_message c || has_message cs
+
+-- whether a float is among them
+abbrev pub is_float : Child → Bool
+is_float (leaf_child kind) = false
+is_float (node_child kind) = false
+is_float message_child = false
+is_float float_child = true
+
+abbrev pub has_float : List Child → Bool
+has_float [] = false
+has_float (c ∷ cs) = is_float c || has_float cs
+
 -- Nothing; a leaf or a node of one of these kinds; any leaf; a float that is taken apart; any children among which a
--- message or an ERROR is; one after another; one of two; any number of one.
+-- message is; any among which an ERROR is, of which no message may tell yet; one after another; one of two; any number
+-- of one.
 infixl 5 ◌⋅◌
 infixl 4 ◌or◌
 pub data Content : Type 0 where
@@ -15,6 +39,7 @@ pub data Content : Type 0 where
   node_of : List ℕ → Content
   a_float : Content
   spoilt : Content
+  owed : Content
   ◌⋅◌ : Content → Content → Content
   ◌or◌ : Content → Content → Content
   any_of : Content → Content
@@ -26,7 +51,8 @@ pub data Holds : Content → List Child → Type 0 where
   some_leaf : {kind : ℕ} → Holds any_leaf (leaf_child kind ∷ [])
   a_node : {kinds : List ℕ} {kind : ℕ} → among kinds kind ≡ true → Holds (node_of kinds) (node_child kind ∷ [])
   the_float : Holds a_float (float_child ∷ [])
-  not_whole : {cs : List Child} → are_sound cs ≡ false → Holds spoilt cs
+  is_told : {cs : List Child} → has_message cs ≡ true → Holds spoilt cs
+  not_whole : {cs : List Child} → are_sound cs ≡ false → Holds owed cs
   in_order : {a b : Content} {cs ds : List Child} → Holds a cs → Holds b ds → Holds (a ⋅ b) (cs ++ ds)
   by_first : {a b : Content} {cs : List Child} → Holds a cs → Holds (a or b) cs
   by_second : {a b : Content} {cs : List Child} → Holds b cs → Holds (a or b) cs
@@ -53,6 +79,7 @@ equal any_leaf any_leaf = true
 equal (node_of ks) (node_of js) = equal_kinds ks js
 equal a_float a_float = true
 equal spoilt spoilt = true
+equal owed owed = true
 equal (a ⋅ b) (x ⋅ y) = let rest = equal b y in choose (equal a x) rest false
 equal (a or b) (x or y) = let rest = equal b y in choose (equal a x) rest false
 equal (any_of a) (any_of x) = equal a x
@@ -155,6 +182,7 @@ last_nodes any_leaf = None
 last_nodes (node_of ks) = Some ks
 last_nodes a_float = None
 last_nodes spoilt = None
+last_nodes owed = None
 last_nodes (a ⋅ b) = last_nodes b
 last_nodes (a or b) = both_kinds (last_nodes a) (last_nodes b)
 last_nodes (any_of a) = None
@@ -167,6 +195,7 @@ before any_leaf = nothing
 before (node_of ks) = nothing
 before a_float = nothing
 before spoilt = nothing
+before owed = nothing
 before (a ⋅ b) = onto a (before b)
 before (a or b) = either_of (before a) (before b)
 before (any_of a) = nothing
@@ -175,3 +204,23 @@ before (any_of a) = nothing
 abbrev pub many : Content → Content
 many nothing = nothing
 many a = any_of a
+
+-- whether a message is among all that a content holds
+abbrev pub is_lost : Content → Bool
+is_lost spoilt = true
+is_lost (spoilt ⋅ b) = true
+is_lost (a or b) = let rest = is_lost b in choose (is_lost a) rest false
+is_lost a = false
+
+-- Whether, where no message is among these children, no ERROR is.
+abbrev pub is_settled : Content → Bool
+is_settled nothing = true
+is_settled (leaf_of ks) = true
+is_settled any_leaf = true
+is_settled (node_of ks) = choose (among ks ERROR) false true
+is_settled a_float = true
+is_settled spoilt = true
+is_settled owed = false
+is_settled (a ⋅ b) = let rest = is_settled b in choose (is_settled a) rest false
+is_settled (a or b) = let rest = is_settled b in choose (is_settled a) rest false
+is_settled (any_of a) = is_settled a

@@ -1,11 +1,12 @@
 -- What holds of contents that are put together.
-use Rattle.std.proofs.Common.{◌≡◌, ◌==◌, ◌&&◌, ℕ, Bool, true, false, List, [], ◌∷◌, ◌++◌, append_assoc, append-nil, refl, sym, subst, ap}
+use Rattle.std.proofs.Common.{◌≡◌, ◌==◌, ◌&&◌, ◌||◌, not, ℕ, Bool, true, false, List, [], ◌∷◌, ◌++◌, append_assoc, append-nil, refl, sym, subst, ap, ◌∙◌}
+use Rattle.rap_base.specs.TokenKind.{ERROR}
 use Rattle.rap_events.proofs.Truth.{and_left, and_right, or_left, or_right}
 use Rattle.rap_grammar_table.specs.Known.{among}
-use Rattle.rap_grammar_table.specs.Shapes.{Child}
+use Rattle.rap_grammar_table.specs.Shapes.{Child, leaf_child, node_child, message_child, float_child}
 use Rattle.rap_grammar_table.proofs.Known.{by_or, same_number}
 use Rattle.rap_grammar_shapes.specs.Whole.{is_sound, are_sound, IsWhole}
-use Rattle.rap_grammar_shapes.proofs.Content.{Content, nothing, leaf_of, any_leaf, node_of, a_float, spoilt, ◌⋅◌, ◌or◌, any_of, Holds, no_child, a_leaf, a_node, not_whole, in_order, by_first, by_second, no_more, one_more, choose, equal_kinds, equal, added, united, is_way, begins, continued, put_sequence, put_leaves, put_nodes, or_nothing, either_of, spoils, append, onto, many}
+use Rattle.rap_grammar_shapes.proofs.Content.{Content, nothing, leaf_of, any_leaf, node_of, a_float, spoilt, owed, ◌⋅◌, ◌or◌, any_of, is_message, has_message, is_float, has_float, Holds, no_child, a_leaf, some_leaf, a_node, the_float, is_told, not_whole, in_order, by_first, by_second, no_more, one_more, choose, equal_kinds, equal, added, united, is_way, begins, continued, put_sequence, put_leaves, put_nodes, or_nothing, either_of, spoils, append, onto, many, is_lost, is_settled}
 
 -- what is so of the one that is chosen
 pub by_choice : {A : Type 0} (P : A → Type 0) (t : Bool) (a b : A) → (t ≡ true → P a) → (t ≡ false → P b) →
@@ -38,6 +39,7 @@ equal_so any_leaf any_leaf h = refl
 equal_so (node_of ks) (node_of js) h = ap (λ (x : List ℕ). node_of x) (equal_kinds_so ks js h)
 equal_so a_float a_float h = refl
 equal_so spoilt spoilt h = refl
+equal_so owed owed h = refl
 equal_so (a ⋅ b) (x ⋅ y) h = by_chosen (equal a x) (equal b y) h (λ e i. rw (equal_so a x e, equal_so b y i) refl)
 equal_so (a or b) (x or y) h = by_chosen (equal a x) (equal b y) h (λ e i. rw (equal_so a x e, equal_so b y i) refl)
 equal_so (any_of a) (any_of x) h = ap (λ (y : Content). any_of y) (equal_so a x h)
@@ -62,6 +64,7 @@ way_so a any_leaf cs h s = as_other a any_leaf cs h s
 way_so a (node_of ks) cs h s = as_other a (node_of ks) cs h s
 way_so a a_float cs h s = as_other a a_float cs h s
 way_so a spoilt cs h s = as_other a spoilt cs h s
+way_so a owed cs h s = as_other a owed cs h s
 way_so a (b ⋅ c) cs h s = as_other a (b ⋅ c) cs h s
 way_so a (any_of b) cs h s = as_other a (any_of b) cs h s
 
@@ -150,6 +153,7 @@ continued_new h s f (node_of ks) cs e r =
     rw r.whole (in_order (as_other h (node_of ks) r.head e r.first) (r.goes_on nothing))
 continued_new h s f a_float cs e r = rw r.whole (in_order (as_other h a_float r.head e r.first) (r.goes_on nothing))
 continued_new h s f spoilt cs e r = rw r.whole (in_order (as_other h spoilt r.head e r.first) (r.goes_on nothing))
+continued_new h s f owed cs e r = rw r.whole (in_order (as_other h owed r.head e r.first) (r.goes_on nothing))
 continued_new h s f (a or b) cs e r =
     rw r.whole (in_order (as_other h (a or b) r.head e r.first) (r.goes_on nothing))
 continued_new h s f (any_of a) cs e r =
@@ -172,6 +176,7 @@ continued_old f any_leaf cs w s = behind_it any_leaf f cs w s
 continued_old f (node_of ks) cs w s = behind_it (node_of ks) f cs w s
 continued_old f a_float cs w s = behind_it a_float f cs w s
 continued_old f spoilt cs w s = behind_it spoilt f cs w s
+continued_old f owed cs w s = behind_it owed f cs w s
 continued_old f (a or b) cs w s = behind_it (a or b) f cs w s
 continued_old f (any_of a) cs w s = behind_it (any_of a) f cs w s
 
@@ -199,6 +204,7 @@ sequence_new h s f any_leaf cs t r = one_new h s f any_leaf cs t r
 sequence_new h s f (node_of ks) cs t r = one_new h s f (node_of ks) cs t r
 sequence_new h s f a_float cs t r = one_new h s f a_float cs t r
 sequence_new h s f spoilt cs t r = one_new h s f spoilt cs t r
+sequence_new h s f owed cs t r = one_new h s f owed cs t r
 sequence_new h s f (c ⋅ d) cs t r = one_new h s f (c ⋅ d) cs t r
 sequence_new h s f (any_of a) cs t r = one_new h s f (any_of a) cs t r
 
@@ -216,6 +222,7 @@ sequence_old h s f any_leaf cs w t = one_old h s f any_leaf cs w t
 sequence_old h s f (node_of ks) cs w t = one_old h s f (node_of ks) cs w t
 sequence_old h s f a_float cs w t = one_old h s f a_float cs w t
 sequence_old h s f spoilt cs w t = one_old h s f spoilt cs w t
+sequence_old h s f owed cs w t = one_old h s f owed cs w t
 sequence_old h s f (c ⋅ d) cs w t = one_old h s f (c ⋅ d) cs w t
 sequence_old h s f (any_of a) cs w t = one_old h s f (any_of a) cs w t
 
@@ -260,6 +267,8 @@ holds_second a_float b cs s =
 holds_second spoilt b cs s =
     or_same spoilt b (put_sequence spoilt spoilt or_nothing b) cs s
     (sequence_old spoilt spoilt or_nothing b cs nothing_old s)
+holds_second owed b cs s =
+    or_same owed b (put_sequence owed owed or_nothing b) cs s (sequence_old owed owed or_nothing b cs nothing_old s)
 holds_second (any_of x) b cs s =
     or_same (any_of x) b (put_sequence (any_of x) (any_of x) or_nothing b) cs s
     (sequence_old (any_of x) (any_of x) or_nothing b cs nothing_old s)
@@ -291,28 +300,52 @@ holds_first a_float b cs s =
 holds_first spoilt b cs s =
     unless_way spoilt b (put_sequence spoilt spoilt or_nothing b) cs s
     (sequence_new spoilt spoilt or_nothing b cs s (alone spoilt cs s))
+holds_first owed b cs s =
+    unless_way owed b (put_sequence owed owed or_nothing b) cs s
+    (sequence_new owed owed or_nothing b cs s (alone owed cs s))
 holds_first (any_of x) b cs s =
     unless_way (any_of x) b (put_sequence (any_of x) (any_of x) or_nothing b) cs s
     (sequence_new (any_of x) (any_of x) or_nothing b cs s (alone (any_of x) cs s))
 
--- children of which a part is not sound
-left_spoils : (cs ds : List Child) → are_sound cs ≡ false → are_sound (cs ++ ds) ≡ false
-left_spoils [] ds h = absurd cc
-left_spoils (c ∷ cs) ds h = spoils_if (is_sound c) cs ds h (λ i. left_spoils cs ds i)
-  where
-    spoils_if : (t : Bool) (cs ds : List Child) → (t && are_sound cs) ≡ false →
-        (are_sound cs ≡ false → are_sound (cs ++ ds) ≡ false) → (t && are_sound (cs ++ ds)) ≡ false
-    spoils_if true cs ds h f = f h
-    spoils_if false cs ds h f = refl
+-- children among which a message is
+pub told_left : (cs ds : List Child) → has_message cs ≡ true → has_message (cs ++ ds) ≡ true
+told_left [] ds h = absurd cc
+told_left (c ∷ cs) ds h =
+    by_or (is_message c) (has_message cs) h (λ i. or_left (is_message c) (has_message (cs ++ ds)) i)
+    (λ i. or_right (is_message c) (has_message (cs ++ ds)) (told_left cs ds i))
 
--- what stands before what is not sound is of no account
-pub right_spoils : (cs ds : List Child) → are_sound ds ≡ false → are_sound (cs ++ ds) ≡ false
-right_spoils [] ds h = h
-right_spoils (c ∷ cs) ds h = spoils_too (is_sound c) (are_sound (cs ++ ds)) (right_spoils cs ds h)
+pub told_right : (cs ds : List Child) → has_message ds ≡ true → has_message (cs ++ ds) ≡ true
+told_right [] ds h = h
+told_right (c ∷ cs) ds h = or_right (is_message c) (has_message (cs ++ ds)) (told_right cs ds h)
+
+-- It is in one of two parts.
+pub told_in : {A : Type 0} (cs ds : List Child) → has_message (cs ++ ds) ≡ true → (has_message cs ≡ true → A) →
+    (has_message ds ≡ true → A) → A
+told_in [] ds h f g = g h
+told_in (c ∷ cs) ds h f g =
+    by_or (is_message c) (has_message (cs ++ ds)) h (λ i. f (or_left (is_message c) (has_message cs) i))
+    (λ i. told_in cs ds i (λ j. f (or_right (is_message c) (has_message cs) j)) g)
+
+-- They are not whole then.
+message_unsound : (c : Child) → is_message c ≡ true → is_sound c ≡ false
+message_unsound (leaf_child kind) h = absurd cc
+message_unsound (node_child kind) h = absurd cc
+message_unsound message_child h = refl
+message_unsound float_child h = absurd cc
+
+pub told_unsound : (cs : List Child) → has_message cs ≡ true → are_sound cs ≡ false
+told_unsound [] h = absurd cc
+told_unsound (c ∷ cs) h =
+    by_or (is_message c) (has_message cs) h (λ i. first_not (is_sound c) (are_sound cs) (message_unsound c i))
+    (λ i. second_not (is_sound c) (are_sound cs) (told_unsound cs i))
   where
-    spoils_too : (t u : Bool) → u ≡ false → (t && u) ≡ false
-    spoils_too true u h = h
-    spoils_too false u h = refl
+    first_not : (t u : Bool) → t ≡ false → (t && u) ≡ false
+    first_not true u h = absurd cc
+    first_not false u h = refl
+
+    second_not : (t u : Bool) → u ≡ false → (t && u) ≡ false
+    second_not true u h = h
+    second_not false u h = refl
 
 -- both parts of whole children are whole
 pub whole_left : (cs ds : List Child) → IsWhole (cs ++ ds) → IsWhole cs
@@ -331,8 +364,8 @@ whole_right (c ∷ cs) ds h = whole_right cs ds (and_right (is_sound c) _ h)
 -- One content behind another holds the children of both.
 pub holds_append : (a b : Content) (cs ds : List Child) → Holds a cs → Holds b ds → Holds (append a b) (cs ++ ds)
 holds_append nothing b cs ds no_child t = t
-holds_append (spoilt ⋅ y) b cs ds (in_order {cs = xs} {ds = ys} (not_whole h) u) t =
-    in_order (not_whole (left_spoils xs ys h)) t
+holds_append (spoilt ⋅ y) b cs ds (in_order {cs = xs} {ds = ys} (is_told h) u) t =
+    in_order (is_told (told_left xs ys h)) t
 holds_append (x or y) b cs ds (by_first s) t =
     by_choice (λ (z : Content). Holds z (cs ++ ds)) (spoils (x or y)) (either_of (append x b) (append y b))
     ((x or y) ⋅ b) (λ e. holds_first (append x b) (append y b) (cs ++ ds) (holds_append x b cs ds s t))
@@ -348,7 +381,7 @@ holds_append a b cs ds s t = in_order s t
 -- One content after another holds the children of both.
 pub holds_onto : (a b : Content) (cs ds : List Child) → Holds a cs → Holds b ds → Holds (onto a b) (cs ++ ds)
 holds_onto a nothing cs ds s no_child = subst (λ (es : List Child). Holds a es) (sym (append-nil cs)) s
-holds_onto a spoilt cs ds s (not_whole h) = not_whole (right_spoils cs ds h)
+holds_onto a spoilt cs ds s (is_told h) = is_told (told_right cs ds h)
 holds_onto a (x ⋅ y) cs ds s (in_order {cs = xs} {ds = ys} t u) =
     subst (λ (es : List Child). Holds (onto (onto a x) y) es) (append_assoc cs xs ys)
     (holds_onto (onto a x) y (cs ++ xs) ys (holds_onto a x cs xs s t) u)
@@ -364,6 +397,7 @@ holds_onto a (leaf_of ks) cs ds s t = holds_append a (leaf_of ks) cs ds s t
 holds_onto a any_leaf cs ds s t = holds_append a any_leaf cs ds s t
 holds_onto a (node_of ks) cs ds s t = holds_append a (node_of ks) cs ds s t
 holds_onto a a_float cs ds s t = holds_append a a_float cs ds s t
+holds_onto a owed cs ds s t = holds_append a owed cs ds s t
 holds_onto a (any_of x) cs ds s t = holds_append a (any_of x) cs ds s t
 
 -- any number of nothing is nothing
@@ -379,6 +413,7 @@ holds_many any_leaf cs s = s
 holds_many (node_of ks) cs s = s
 holds_many a_float cs s = s
 holds_many spoilt cs s = s
+holds_many owed cs s = s
 holds_many (a ⋅ b) cs s = s
 holds_many (a or b) cs s = s
 holds_many (any_of a) cs s = s
@@ -398,3 +433,96 @@ first_holds a b cs s = by_first s
 
 pub second_holds : (a b : Content) (cs : List Child) → Holds b cs → Holds (either_way a b) cs
 second_holds a b cs s = by_second s
+
+-- Where no message is among these children, no ERROR is.
+abbrev pub IsCalm : List Child → Type 0
+IsCalm cs = has_message cs ≡ false → IsWhole cs
+
+pub both_whole : (cs ds : List Child) → IsWhole cs → IsWhole ds → IsWhole (cs ++ ds)
+both_whole [] ds h i = i
+both_whole (c ∷ cs) ds h i =
+    both (is_sound c) (are_sound (cs ++ ds)) (and_left (is_sound c) _ h)
+    (both_whole cs ds (and_right (is_sound c) _ h) i)
+  where
+    both : (t u : Bool) → t ≡ true → u ≡ true → (t && u) ≡ true
+    both true u h i = i
+    both false u h i = absurd cc
+
+-- whether a truth value is so
+by_answer : {A : Type 0} (t : Bool) → (t ≡ true → A) → (t ≡ false → A) → A
+by_answer true f g = f refl
+by_answer false f g = g refl
+
+untold_left : (cs ds : List Child) → has_message (cs ++ ds) ≡ false → has_message cs ≡ false
+untold_left cs ds h =
+    by_answer (has_message cs) (λ i. absurd (let z : true ≡ false = sym (told_left cs ds i) ∙ h in cc)) (λ i. i)
+
+untold_right : (cs ds : List Child) → has_message (cs ++ ds) ≡ false → has_message ds ≡ false
+untold_right cs ds h =
+    by_answer (has_message ds) (λ i. absurd (let z : true ≡ false = sym (told_right cs ds i) ∙ h in cc)) (λ i. i)
+
+pub calm_both : (cs ds : List Child) → IsCalm cs → IsCalm ds → IsCalm (cs ++ ds)
+calm_both cs ds c d h = both_whole cs ds (c (untold_left cs ds h)) (d (untold_right cs ds h))
+
+-- a kind of those of which none is an ERROR
+pub not_error : (ks : List ℕ) (k : ℕ) → is_settled (node_of ks) ≡ true → among ks k ≡ true → (k == ERROR) ≡ false
+not_error ks k h m =
+    by_answer (k == ERROR)
+    (λ e.
+    let i : among ks ERROR ≡ true = subst (λ (j : ℕ). among ks j ≡ true) (same_number k ERROR e) m in
+    absurd (let z : false ≡ true = subst (λ (t : Bool). choose t false true ≡ true) i h in cc))
+    (λ e. e)
+
+-- What is settled is so.
+pub settled_so : (a : Content) (cs : List Child) → is_settled a ≡ true → Holds a cs → IsCalm cs
+settled_so nothing cs h no_child w = refl
+settled_so (leaf_of ks) cs h (a_leaf m) w = refl
+settled_so any_leaf cs h some_leaf w = refl
+settled_so (node_of ks) cs h (a_node {kind = k} m) w =
+    subst (λ (t : Bool). (not t && true) ≡ true) (sym (not_error ks k h m)) refl
+settled_so a_float cs h the_float w = refl
+settled_so spoilt cs h (is_told i) w = absurd (let z : true ≡ false = sym i ∙ w in cc)
+settled_so owed cs h s w = absurd cc
+settled_so (a ⋅ b) cs h (in_order {cs = xs} {ds = ys} s t) w =
+    by_chosen (is_settled a) (is_settled b) h
+    (λ i j. calm_both xs ys (settled_so a xs i s) (settled_so b ys j t) w)
+settled_so (a or b) cs h (by_first s) w = by_chosen (is_settled a) (is_settled b) h (λ i j. settled_so a cs i s w)
+settled_so (a or b) cs h (by_second s) w = by_chosen (is_settled a) (is_settled b) h (λ i j. settled_so b cs j s w)
+settled_so (any_of a) cs h no_more w = refl
+settled_so (any_of a) cs h (one_more {cs = xs} {ds = ys} s t) w =
+    calm_both xs ys (settled_so a xs h s) (settled_so (any_of a) ys h t) w
+
+-- What is lost has a message.
+pub lost_so : (a : Content) (cs : List Child) → is_lost a ≡ true → Holds a cs → has_message cs ≡ true
+lost_so spoilt cs h (is_told i) = i
+lost_so (spoilt ⋅ b) cs h (in_order {cs = xs} {ds = ys} (is_told i) t) = told_left xs ys i
+lost_so (a or b) cs h (by_first s) = by_chosen (is_lost a) (is_lost b) h (λ i j. lost_so a cs i s)
+lost_so (a or b) cs h (by_second s) = by_chosen (is_lost a) (is_lost b) h (λ i j. lost_so b cs j s)
+lost_so a cs h s = absurd cc
+
+-- No float is among the children of two lists where none is among those of either.
+pub no_float_both : (cs ds : List Child) → has_float cs ≡ false → has_float ds ≡ false → has_float (cs ++ ds) ≡ false
+no_float_both [] ds h i = i
+no_float_both (c ∷ cs) ds h i = both (is_float c) (has_float cs) h (λ j. no_float_both cs ds j i)
+  where
+    both : (t u : Bool) → (t || u) ≡ false → (u ≡ false → has_float (cs ++ ds) ≡ false) →
+        (t || has_float (cs ++ ds)) ≡ false
+    both true u h f = absurd cc
+    both false u h f = f h
+
+pub no_float_right : (cs ds : List Child) → has_float (cs ++ ds) ≡ false → has_float ds ≡ false
+no_float_right [] ds h = h
+no_float_right (c ∷ cs) ds h = no_float_right cs ds (second (is_float c) (has_float (cs ++ ds)) h)
+  where
+    second : (t u : Bool) → (t || u) ≡ false → u ≡ false
+    second true u h = absurd cc
+    second false u h = h
+
+pub no_float_left : (cs ds : List Child) → has_float (cs ++ ds) ≡ false → has_float cs ≡ false
+no_float_left [] ds h = refl
+no_float_left (c ∷ cs) ds h =
+    both (is_float c) (has_float (cs ++ ds)) (has_float cs) h (λ i. no_float_left cs ds i)
+  where
+    both : (t u v : Bool) → (t || u) ≡ false → (u ≡ false → v ≡ false) → (t || v) ≡ false
+    both true u v h f = absurd cc
+    both false u v h f = f h

@@ -1,7 +1,7 @@
 -- What stands under each open node of a script, and what a script appends, computed from the script alone.
 use Rattle.std.specs.Prelude.{◌==◌, ◌&&◌, ◌||◌, ℕ, zero, suc, Bool, true, false, List, [], ◌∷◌, ◌++◌, drop, Option, Some, None, if◌then◌else◌}
-use Rattle.rap_base.specs.NodeKind.{FIELD_EXPR}
-use Rattle.rap_base.specs.TokenKind.{ERROR}
+use Rattle.rap_base.specs.NodeKind.{FIELD_EXPR, NAME_REF}
+use Rattle.rap_base.specs.TokenKind.{DOT, ERROR}
 use Rattle.rap_events.specs.Composite.{width}
 use Rattle.rap_grammar_scripts.specs.Script.{Script, Outcome, nothing as none_left, something, block, again, give, test, ends_with, token, any, bear, report, report_next, skip, start, precede, finish, extend, abandon, split_float, after as and_then, rule, loop}
 use Rattle.rap_grammar_scripts.specs.Tally.{same_flag, same_outcome}
@@ -9,7 +9,7 @@ use Rattle.rap_grammar_scripts.specs.declared.rule.Rule.{Rule}
 use Rattle.rap_grammar_table.specs.Known.{every_one, among}
 use Rattle.rap_grammar_shapes.proofs.Ahead.{Ahead, equal_ahead, learned, by_ahead, next_leaf}
 use Rattle.rap_grammar_shapes.proofs.Claims.{brings}
-use Rattle.rap_grammar_shapes.proofs.Content.{Content, nothing, leaf_of, node_of, a_float, spoilt, ◌⋅◌, ◌or◌, any_of, any_leaf, choose, equal, either_of, onto, last_nodes, before, many}
+use Rattle.rap_grammar_shapes.proofs.Content.{Content, nothing, leaf_of, node_of, a_float, spoilt, owed, ◌⋅◌, ◌or◌, any_of, any_leaf, choose, equal, either_of, onto, last_nodes, before, many, is_lost, is_settled}
 use Rattle.rap_grammar_shapes.proofs.Models.{model}
 use Rattle.rap_grammar_shapes.proofs.Runs.{runs, comes_back}
 
@@ -32,6 +32,7 @@ by_content any_leaf h = h any_leaf
 by_content (node_of ks) h = by_kinds ks (λ x. h (node_of x))
 by_content a_float h = h a_float
 by_content spoilt h = h spoilt
+by_content owed h = h owed
 by_content (a ⋅ b) h = by_content a (λ x. by_content b (λ y. h (x ⋅ y)))
 by_content (a or b) h = by_content a (λ x. by_content b (λ y. h (x or y)))
 by_content (any_of a) h = by_content a (λ x. h (any_of x))
@@ -67,18 +68,25 @@ abbrev pub opened : Contents → Contents
 opened astray = astray
 opened (contents a os) = contents nothing (a ∷ os)
 
--- and is finished under a kind. An ERROR is spoilt.
-abbrev pub node_content : ℕ → Content
-node_content k = choose (k == ERROR) spoilt (node_of (k ∷ []))
+-- and is finished under a kind, if all that it holds may stand there, and no ERROR in it is owed a message. An ERROR in
+-- which none is is owed one.
+abbrev pub error_content : Content → Content
+error_content a = choose (is_lost a) spoilt owed
 
-abbrev pub closed_if : Bool → ℕ → Content → List Content → Contents
-closed_if true k b os = contents (onto b (node_content k)) os
-closed_if false k b os = astray
+abbrev pub node_content : ℕ → Content → Content
+node_content k a = choose (k == ERROR) (error_content a) (node_of (k ∷ []))
+
+abbrev pub may_close : ℕ → Content → Bool
+may_close k a = choose (runs (model k) a) (is_settled a) false
+
+abbrev pub closed_if : Bool → Content → Content → List Content → Contents
+closed_if true n b os = contents (onto b n) os
+closed_if false n b os = astray
 
 abbrev pub closed : ℕ → Contents → Contents
 closed k astray = astray
 closed k (contents a []) = astray
-closed k (contents a (b ∷ os)) = closed_if (runs (model k) a) k b os
+closed k (contents a (b ∷ os)) = closed_if (may_close k a) (node_content k a) b os
 
 -- A node is opened around the last one,
 abbrev pub preceded_if : Option (List ℕ) → Content → List Content → Contents
@@ -94,25 +102,36 @@ abbrev pub extended_by : Bool → List ℕ → Content → List Content → Cont
 extended_by false ks b os = astray
 extended_by true ks b os = contents (onto b (node_of ks)) os
 
+abbrev pub may_extend : List ℕ → Content → Bool
+may_extend ks b =
+    let rest = choose (is_settled (node_of ks)) (is_settled b) false in
+    choose (every_one (λ k. comes_back (model k) b) ks) rest false
+
 abbrev pub extended_if : Option (List ℕ) → Content → List Content → Contents
 extended_if None a os = astray
 extended_if (Some ks) a [] = astray
-extended_if (Some ks) a (b ∷ os) = extended_by (every_one (λ k. comes_back (model k) (before a)) ks) ks b os
+extended_if (Some ks) a (b ∷ os) = extended_by (may_extend ks (before a)) ks b os
 
 abbrev pub drawn : Contents → Contents
 drawn astray = astray
 drawn (contents a os) = extended_if (last_nodes a) a os
 
 -- A float is taken apart, in one node or in two.
+abbrev pub two_names : Content
+two_names = node_of (FIELD_EXPR ∷ []) ⋅ leaf_of (DOT ∷ []) ⋅ node_of (NAME_REF ∷ [])
+
 abbrev pub float_runs : Content → Bool
 float_runs a =
-    let outer = runs (model FIELD_EXPR) (node_of (FIELD_EXPR ∷ [])) in
-    choose (runs (model FIELD_EXPR) (onto a a_float)) outer false
+    let outer = runs (model FIELD_EXPR) two_names in
+    choose (runs (model FIELD_EXPR) (onto a (node_of (NAME_REF ∷ [])))) outer false
+
+abbrev pub float_closes : Content → Bool
+float_closes a = choose (float_runs a) (is_settled a) false
 
 abbrev pub parted : Contents → Contents
 parted astray = astray
 parted (contents a []) = astray
-parted (contents a (b ∷ os)) = closed_if (float_runs a) FIELD_EXPR b os
+parted (contents a (b ∷ os)) = closed_if (float_closes a) (node_of (FIELD_EXPR ∷ [])) b os
 
 -- A node is abandoned.
 abbrev pub given_up : Contents → Contents
@@ -145,6 +164,10 @@ abbrev pub pool : Ends → Ends → Ends
 pool [] k = k
 pool (e ∷ j) k = put e.0 e.1 e.2 (pool j k)
 
+abbrev pub by_ends : {A : Type 0} → Ends → (Ends → A) → A
+by_ends [] h = h []
+by_ends (e ∷ k) h = by_ahead e.1 (λ l. by_contents e.2 (λ x. by_ends k (λ j. h ((e.0, l, x) ∷ j))))
+
 -- on from each end, and in each way in which the tokens may go on
 abbrev pub gather : (Outcome → Ahead → Contents → Ends) → Ends → Ends
 gather f [] = []
@@ -153,6 +176,28 @@ gather f (e ∷ k) = pool (by_ahead e.1 (λ l. by_contents e.2 (λ y. f e.0 l y)
 abbrev pub on_ways : (Ahead → Ends) → List Ahead → Ends
 on_ways f [] = []
 on_ways f (l ∷ ls) = pool (by_ahead l f) (on_ways f ls)
+
+-- what is appended to nothing but the newest node, behind what stands there
+abbrev pub behind : Contents → Contents → Contents
+behind x astray = astray
+behind x (contents a []) = with_more a x
+behind x (contents a (b ∷ os)) = astray
+
+abbrev pub is_alone : Contents → Bool
+is_alone astray = false
+is_alone (contents a []) = true
+is_alone (contents a (b ∷ os)) = false
+
+abbrev pub all_alone : Ends → Bool
+all_alone [] = true
+all_alone (e ∷ k) = let rest = all_alone k in choose (is_alone e.2) rest false
+
+abbrev pub behind_each : Contents → Ends → Ends
+behind_each x [] = []
+behind_each x (e ∷ k) = (e.0, e.1, behind x e.2) ∷ behind_each x k
+
+abbrev pub alone_or : Contents → Ends → Ends → Ends
+alone_or x k last = choose (all_alone k) (behind_each x k) last
 
 -- behind what a rule brings
 abbrev pub rule_ends : Contents → List (Outcome × Content) → Ends
@@ -218,21 +263,29 @@ any_one (a ∷ b ∷ cs) = either_of a (any_one (b ∷ cs))
 abbrev pub reached : Row → Content
 reached r = onto (any_one r.arrives) (many (any_one r.stays))
 
--- where the next turn begins: at what comes next, or whatever comes next
-abbrev pub next_at : Bool → Bool → Bool → Ahead → Start
-next_at true c d l = begin_at c d l
-next_at false c d l = begin_at c d []
+-- where the next turn begins: at what comes next, or whatever comes next, as it is behind what is spoilt anyway
+abbrev pub none_lost : Content → Bool
+none_lost a = choose (is_lost a) false true
+
+abbrev pub next_if : Bool → Bool → Bool → Ahead → Start
+next_if true c d l = begin_at c d l
+next_if false c d l = begin_at c d []
+
+abbrev pub is_kept : Bool → Content → Bool
+is_kept true a = none_lost a
+is_kept false a = false
+
+abbrev pub next_at : Bool → Bool → Bool → Ahead → Content → Start
+next_at f c d l a = next_if (is_kept f a) c d l
 
 -- the starts that turns lead to, from these on; at most so many
-abbrev pub start_by : Bool → Outcome → Ahead → List Start → List Start
-start_by f none_left l ss = ss
-start_by f something l ss = ss
-start_by f block l ss = ss
-start_by f (again c d) l ss = next_at f c d l ∷ ss
+abbrev pub start_by : Bool → Outcome → Ahead → Contents → List Start → List Start
+start_by f (again c d) l (contents a []) ss = next_at f c d l a ∷ ss
+start_by f v l x ss = ss
 
 abbrev pub starts_in : Bool → Ends → List Start
 starts_in f [] = []
-starts_in f (e ∷ k) = start_by f e.0 e.1 (starts_in f k)
+starts_in f (e ∷ k) = start_by f e.0 e.1 e.2 (starts_in f k)
 
 abbrev pub is_seen : Start → List (Start × Ends) → Bool
 is_seen s [] = false
@@ -243,7 +296,7 @@ explored zero f g seen todo = seen
 explored (suc n) f g seen [] = seen
 explored (suc n) f g seen (s ∷ todo) =
     let known = explored n f g seen todo in
-    let found = explored n f g (seen ++ (s, g s) ∷ []) (todo ++ starts_in f (g s)) in
+    let found = by_ends (g s) (λ k. explored n f g (seen ++ (s, k) ∷ []) (todo ++ starts_in f k)) in
     choose (is_seen s seen) known found
 
 -- in an order in which each stands behind those that lead to it, where there is one
@@ -267,7 +320,7 @@ arriving s [] = []
 arriving s (w ∷ ws) = let rest = arriving s ws in choose (equal_start s w.0) (w.1 ∷ rest) rest
 
 abbrev pub stay_by : Bool → Start → Outcome → Ahead → Contents → List Content → List Content
-stay_by f s (again c d) l (contents a []) cs = let more = a ∷ cs in choose (equal_start s (next_at f c d l)) more cs
+stay_by f s (again c d) l (contents a []) cs = let more = a ∷ cs in choose (equal_start s (next_at f c d l a)) more cs
 stay_by f s v l x cs = cs
 
 abbrev pub staying : Bool → Start → Ends → List Content
@@ -277,18 +330,23 @@ staying f s (e ∷ k) = stay_by f s e.0 e.1 e.2 (staying f s k)
 abbrev pub leave_by : Bool → Start → Content → Outcome → Ahead → Contents → List (Start × Content) →
     List (Start × Content)
 leave_by f s r (again c d) l (contents a []) ws =
-    let more = (next_at f c d l, onto r a) ∷ ws in choose (equal_start s (next_at f c d l)) ws more
+    let more = (next_at f c d l a, onto r a) ∷ ws in choose (equal_start s (next_at f c d l a)) ws more
 leave_by f s r v l x ws = ws
 
 abbrev pub leaving : Bool → Start → Content → Ends → List (Start × Content)
 leaving f s r [] = []
 leaving f s r (e ∷ k) = leave_by f s r e.0 e.1 e.2 (leaving f s r k)
 
+abbrev pub row_of : Start × Ends → List Content → List Content → Row
+row_of t arrive stay = record { start = t.0; turn = t.1; arrives = arrive; stays = stay }
+
 abbrev pub solved : Bool → List (Start × Ends) → List (Start × Content) → List Row
 solved f [] ws = []
 solved f (t ∷ ts) ws =
-    let r : Row = record { start = t.0; turn = t.1; arrives = arriving t.0 ws; stays = staying f t.0 t.1 } in
-    r ∷ solved f ts (leaving f t.0 (reached r) t.1 ++ ws)
+    by_newest (arriving t.0 ws)
+    (λ arrive.
+    by_newest (staying f t.0 t.1)
+    (λ stay. let r = row_of t arrive stay in r ∷ solved f ts (leaving f t.0 (reached r) t.1 ++ ws)))
 
 abbrev pub rows_from : Bool → (Start → Ends) → Start → List Row
 rows_from f g s = solved f (ordered 40 f (explored 24 f g [] (s ∷ []))) ((s, nothing) ∷ [])
@@ -312,7 +370,7 @@ lands rows r a t =
 abbrev pub end_lands : Bool → List Row → Row → Outcome → Ahead → Contents → Bool
 end_lands f rows r v l astray = false
 end_lands f rows r v l (contents a (b ∷ os)) = false
-end_lands f rows r (again c d) l (contents a []) = lands rows r a (next_at f c d l)
+end_lands f rows r (again c d) l (contents a []) = lands rows r a (next_at f c d l a)
 end_lands f rows r v l (contents a []) = true
 
 abbrev pub all_land : Bool → List Row → Row → Ends → Bool
@@ -327,11 +385,6 @@ abbrev pub are_all : Bool → Start → List Row → Bool
 are_all f s rows = let rest = each_lands f rows rows in choose (goes_to nothing s rows) rest false
 
 -- the last turns from each row
-abbrev pub behind : Contents → Contents → Contents
-behind x astray = astray
-behind x (contents a []) = with_more a x
-behind x (contents a (b ∷ os)) = astray
-
 abbrev pub lasts : Contents → Ends → Ends
 lasts x [] = []
 lasts x (e ∷ k) = last_by e.0 e.1 (behind x e.2) (lasts x k)
@@ -348,10 +401,6 @@ equal_ends (e ∷ j) [] = false
 equal_ends (e ∷ j) (f ∷ k) =
     let rest = equal_ends j k in let same = choose (equal_contents e.2 f.2) rest false in
     choose (same_end e.0 e.1 f) same false
-
-abbrev pub by_ends : {A : Type 0} → Ends → (Ends → A) → A
-by_ends [] h = h []
-by_ends (e ∷ k) h = by_ahead e.1 (λ l. by_contents e.2 (λ x. by_ends k (λ j. h ((e.0, l, x) ∷ j))))
 
 abbrev pub turn_from : Turn → Outcome → Ahead → Contents → Ends
 turn_from g none_left l x = []
@@ -378,29 +427,31 @@ loop_ends g c d l x =
     let last = rounds 4 g ((again c d, l, x) ∷ []) in
     let more = by_rows false g (begin_at c d []) x last in by_rows true g (begin_at c d l) x more
 
--- Where a script ends that begins so, with what is known of the tokens that come next or without.
-abbrev pub ends : Bool → Script Rule → Ahead → Contents → Ends
-ends deep (give v) l x = (v, l, x) ∷ []
-ends deep (test h s t) l x = pool (on_ways (λ m. ends deep s m x) (learned deep h true l)) (on_ways (λ m. ends deep t m x) (learned deep h false l))
-ends deep (ends_with k s t) l x = pool (ends deep s l x) (ends deep t l x)
-ends deep (token k s) l x =
-    by_ahead (drop (width k) l) (λ m. by_contents (with_more (leaf_of (k ∷ [])) x) (λ y. ends deep s m y))
-ends deep (any s) l x = by_ahead (drop 1 l) (λ m. by_contents (with_more (next_leaf l) x) (λ y. ends deep s m y))
-ends deep (bear k s) l x = by_ahead (drop 1 l) (λ m. by_contents (with_more (leaf_of (k ∷ [])) x) (λ y. ends deep s m y))
-ends deep (report m s) l x = by_contents (with_more spoilt x) (λ y. ends deep s l y)
-ends deep (report_next m s) l x = by_contents (with_more spoilt x) (λ y. ends deep s l y)
-ends deep (skip m s) l x = by_ahead (drop 1 l) (λ m. by_contents (with_more spoilt x) (λ y. ends deep s m y))
-ends deep (start s) l x = by_contents (opened x) (λ y. ends deep s l y)
-ends deep (precede s) l x = by_contents (with_last x) (λ y. ends deep s l y)
-ends deep (finish k s) l x = by_contents (closed k x) (λ y. ends deep s l y)
-ends deep (extend s) l x = by_contents (drawn x) (λ y. ends deep s l y)
-ends deep (abandon s) l x = by_contents (given_up x) (λ y. ends deep s l y)
-ends deep (split_float s t) l x =
-    by_ahead (drop 1 l) (λ m. by_contents (parted x) (λ y. pool (ends deep s m y) (ends deep t m y)))
-ends deep (and_then s h) l x = gather (λ v m y. ends deep (h v) m y) (ends deep s l x)
-ends deep (rule c h) l x = gather (λ v m y. ends deep (h v) m y) (rule_ends x (brings c))
-ends deep (loop h a b) l x =
-    loop_ends (λ c d m y. ends deep (h c d) m y) a b l x
+-- Where a script ends that begins so, with what is known of the tokens that come next. What a script within another
+-- appends to the newest node alone is computed from nothing on, whatever stands there.
+abbrev pub ends : Script Rule → Ahead → Contents → Ends
+ends (give v) l x = (v, l, x) ∷ []
+ends (test h s t) l x = pool (on_ways (λ m. ends s m x) (learned h true l)) (on_ways (λ m. ends t m x) (learned h false l))
+ends (ends_with k s t) l x = pool (ends s l x) (ends t l x)
+ends (token k s) l x =
+    by_ahead (drop (width k) l) (λ m. by_contents (with_more (leaf_of (k ∷ [])) x) (λ y. ends s m y))
+ends (any s) l x = by_ahead (drop 1 l) (λ m. by_contents (with_more (next_leaf l) x) (λ y. ends s m y))
+ends (bear k s) l x = by_ahead (drop 1 l) (λ m. by_contents (with_more (leaf_of (k ∷ [])) x) (λ y. ends s m y))
+ends (report m s) l x = by_contents (with_more spoilt x) (λ y. ends s l y)
+ends (report_next m s) l x = by_contents (with_more spoilt x) (λ y. ends s l y)
+ends (skip m s) l x = by_ahead (drop 1 l) (λ m. by_contents (with_more spoilt x) (λ y. ends s m y))
+ends (start s) l x = by_contents (opened x) (λ y. ends s l y)
+ends (precede s) l x = by_contents (with_last x) (λ y. ends s l y)
+ends (finish k s) l x = by_contents (closed k x) (λ y. ends s l y)
+ends (extend s) l x = by_contents (drawn x) (λ y. ends s l y)
+ends (abandon s) l x = by_contents (given_up x) (λ y. ends s l y)
+ends (split_float s t) l x =
+    by_ahead (drop 1 l) (λ m. by_contents (parted x) (λ y. pool (ends s m y) (ends t m y)))
+ends (and_then s h) l x =
+    let last = ends s l x in gather (λ v m y. ends (h v) m y) (alone_or x (ends s l (contents nothing [])) last)
+ends (rule c h) l x = gather (λ v m y. ends (h v) m y) (rule_ends x (brings c))
+ends (loop h a b) l x =
+    loop_ends (λ c d m y. ends (h c d) m y) a b l x
 
 -- Whether a content is one child, of these kinds.
 abbrev pub has_leaves : List ℕ → Content → Bool
@@ -437,6 +488,11 @@ abbrev pub all_among : Ends → List (Outcome × Content) → Bool
 all_among [] k = true
 all_among (e ∷ l) k = end_among e.0 e.2 k && all_among l k
 
+-- no end of a rule is owed a message
+abbrev pub all_settled : List (Outcome × Content) → Bool
+all_settled [] = true
+all_settled (e ∷ k) = is_settled e.1 && all_settled k
+
 -- the ends of a script are what this rule brings
-abbrev pub brings_all : Bool → Script Rule → List (Outcome × Content) → Bool
-brings_all deep s k = all_among (ends deep s [] (contents nothing [])) k
+abbrev pub brings_all : Script Rule → List (Outcome × Content) → Bool
+brings_all s k = all_among (ends s [] (contents nothing [])) k

@@ -23,91 +23,91 @@ use Rattle.rap_grammar_shapes.specs.HaveShapes.{RootsHaveShapes, AloneHaveShapes
 use Rattle.rap_grammar_shapes.proofs.AllRules.{root_so, script_so}
 use Rattle.rap_grammar_shapes.proofs.Known.{knows, stands_under}
 
-file_stand : stands_under SOURCE_FILE true source_file ≡ true
+file_stand : stands_under SOURCE_FILE source_file ≡ true
 unfolding scripts tests
 file_stand = refl
 
-items_stand : stands_under MACRO_ITEMS true (mod_contents false) ≡ true
+items_stand : stands_under MACRO_ITEMS (mod_contents false) ≡ true
 unfolding scripts tests
 items_stand = refl
 
-statements_stand : stands_under MACRO_STMTS true macro_stmts ≡ true
+statements_stand : stands_under MACRO_STMTS macro_stmts ≡ true
 unfolding scripts tests
 statements_stand = refl
 
-visibility_known : knows true (opt_visibility false) ≡ true
+visibility_known : knows (opt_visibility false) ≡ true
 unfolding scripts tests
 visibility_known = refl
 
-block_known : knows true block_expr ≡ true
+block_known : knows block_expr ≡ true
 unfolding scripts tests
 block_known = refl
 
-statement_known : knows false (stmt semicolon.Forbidden) ≡ true
+statement_known : knows (stmt semicolon.Forbidden) ≡ true
 unfolding scripts tests
 statement_known = refl
 
-single_pattern_known : knows true pattern_single ≡ true
+single_pattern_known : knows pattern_single ≡ true
 unfolding scripts tests
 single_pattern_known = refl
 
-pattern_known : knows true pattern ≡ true
+pattern_known : knows pattern ≡ true
 unfolding scripts tests
 pattern_known = refl
 
-type_known : knows true type_ ≡ true
+type_known : knows type_ ≡ true
 unfolding scripts tests
 type_known = refl
 
-expression_known : knows true expr ≡ true
+expression_known : knows expr ≡ true
 unfolding scripts tests
 expression_known = refl
 
-path_known : knows true type_path ≡ true
+path_known : knows type_path ≡ true
 unfolding scripts tests
 path_known = refl
 
-item_known : knows false (item_or_macro true true) ≡ true
+item_known : knows (item_or_macro true true) ≡ true
 unfolding scripts tests
 item_known = refl
 
-meta_known : knows true meta ≡ true
+meta_known : knows meta ≡ true
 unfolding scripts tests
 meta_known = refl
 
-record_fields_known : knows true record_field_list ≡ true
+record_fields_known : knows record_field_list ≡ true
 unfolding scripts tests
 record_fields_known = refl
 
-record_expr_fields_known : knows true record_expr_field_list ≡ true
+record_expr_fields_known : knows record_expr_field_list ≡ true
 unfolding scripts tests
 record_expr_fields_known = refl
 
-variants_known : knows true variant_list ≡ true
+variants_known : knows variant_list ≡ true
 unfolding scripts tests
 variants_known = refl
 
-arms_known : knows true match_arm_list ≡ true
+arms_known : knows match_arm_list ≡ true
 unfolding scripts tests
 arms_known = refl
 
-use_trees_known : knows true use_tree_list ≡ true
+use_trees_known : knows use_tree_list ≡ true
 unfolding scripts tests
 use_trees_known = refl
 
-extern_items_known : knows true extern_item_list ≡ true
+extern_items_known : knows extern_item_list ≡ true
 unfolding scripts tests
 extern_items_known = refl
 
-token_tree_known : knows true token_tree ≡ true
+token_tree_known : knows token_tree ≡ true
 unfolding scripts tests
 token_tree_known = refl
 
-assoc_items_known : knows true assoc_item_list ≡ true
+assoc_items_known : knows assoc_item_list ≡ true
 unfolding scripts tests
 assoc_items_known = refl
 
-items_of_list_known : knows true item_list ≡ true
+items_of_list_known : knows item_list ≡ true
 unfolding scripts tests
 items_of_list_known = refl
 
@@ -115,32 +115,32 @@ items_of_list_known = refl
 pub roots_so : RootsHaveShapes
 roots_so =
     record {
-      file = root_so SOURCE_FILE true source_file file_stand;
-      items = root_so MACRO_ITEMS true (mod_contents false) items_stand;
-      statements = root_so MACRO_STMTS true macro_stmts statements_stand;
+      file = root_so SOURCE_FILE source_file file_stand;
+      items = root_so MACRO_ITEMS (mod_contents false) items_stand;
+      statements = root_so MACRO_STMTS macro_stmts statements_stand;
     }
 
 -- What is read alone has shapes.
 pub alone_so : AloneHaveShapes
 alone_so =
     record {
-      visibility = script_so true (opt_visibility false) visibility_known;
-      block = script_so true block_expr block_known;
-      statement = script_so false (stmt semicolon.Forbidden) statement_known;
-      single_pattern = script_so true pattern_single single_pattern_known;
-      pattern = script_so true pattern pattern_known;
-      type = script_so true type_ type_known;
-      expression = script_so true expr expression_known;
-      path = script_so true type_path path_known;
-      item = script_so false (item_or_macro true true) item_known;
-      meta = script_so true meta meta_known;
-      record_fields = script_so true record_field_list record_fields_known;
-      record_values = script_so true record_expr_field_list record_expr_fields_known;
-      variants = script_so true variant_list variants_known;
-      match_arms = script_so true match_arm_list arms_known;
-      use_trees = script_so true use_tree_list use_trees_known;
-      extern_items = script_so true extern_item_list extern_items_known;
-      tokens = script_so true token_tree token_tree_known;
-      assoc_items = script_so true assoc_item_list assoc_items_known;
-      items = script_so true item_list items_of_list_known;
+      visibility = script_so (opt_visibility false) visibility_known;
+      block = script_so block_expr block_known;
+      statement = script_so (stmt semicolon.Forbidden) statement_known;
+      single_pattern = script_so pattern_single single_pattern_known;
+      pattern = script_so pattern pattern_known;
+      type = script_so type_ type_known;
+      expression = script_so expr expression_known;
+      path = script_so type_path path_known;
+      item = script_so (item_or_macro true true) item_known;
+      meta = script_so meta meta_known;
+      record_fields = script_so record_field_list record_fields_known;
+      record_values = script_so record_expr_field_list record_expr_fields_known;
+      variants = script_so variant_list variants_known;
+      match_arms = script_so match_arm_list arms_known;
+      use_trees = script_so use_tree_list use_trees_known;
+      extern_items = script_so extern_item_list extern_items_known;
+      tokens = script_so token_tree token_tree_known;
+      assoc_items = script_so assoc_item_list assoc_items_known;
+      items = script_so item_list items_of_list_known;
     }

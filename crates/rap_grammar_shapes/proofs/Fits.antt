@@ -11,7 +11,7 @@ use Rattle.rap_grammar_shapes.specs.Shapes.{shape_of}
 use Rattle.rap_grammar_shapes.specs.Whole.{IsWhole, are_sound, is_sound}
 use Rattle.rap_grammar_shapes.proofs.Along.{spelled}
 use Rattle.rap_grammar_shapes.proofs.Content.{Content, nothing as no_content, leaf_of as leaves, any_leaf as each_leaf, node_of as nodes, a_float as float, any_of as repeated, Holds, no_child as holds_nothing, a_leaf as holds_leaf, some_leaf as holds_each, a_node as holds_node, the_float as holds_float, no_more as holds_no_more, one_more as holds_more}
-use Rattle.rap_grammar_shapes.proofs.ContentLaws.{row_holds, first_holds, second_holds, in_row, either_way}
+use Rattle.rap_grammar_shapes.proofs.ContentLaws.{row_holds, first_holds, second_holds, in_row, either_way, both_whole}
 use Rattle.rap_grammar_shapes.proofs.Models.{model}
 use Rattle.rap_grammar_shapes.proofs.Runs.{runs, runs_so}
 
@@ -26,7 +26,7 @@ content_of (a ⋅ b) = in_row (content_of a) (content_of b)
 content_of (a or b) = either_way (content_of a) (content_of b)
 content_of (any_of a) = repeated (content_of a)
 
-content_holds : {s : Shape} {cs : List Child} → Spells s cs → Holds (content_of s) cs
+pub content_holds : {s : Shape} {cs : List Child} → Spells s cs → Holds (content_of s) cs
 content_holds no_child = holds_nothing
 content_holds (a_leaf m) = holds_leaf m
 content_holds some_leaf = holds_each
@@ -54,17 +54,7 @@ no_error true true f h = absurd cc
 no_error true false f h = absurd (let e = f refl in cc)
 no_error false c f h = refl
 
-both_sound : (cs ds : List Child) → IsWhole cs → IsWhole ds → IsWhole (cs ++ ds)
-both_sound [] ds h i = i
-both_sound (c ∷ cs) ds h i =
-    both (is_sound c) (are_sound (cs ++ ds)) (and_left (is_sound c) _ h)
-    (both_sound cs ds (and_right (is_sound c) _ h) i)
-  where
-    both : (t u : Bool) → t ≡ true → u ≡ true → (t && u) ≡ true
-    both true u h i = i
-    both false u h i = absurd cc
-
-spells_sound : {s : Shape} {cs : List Child} → without_error s ≡ true → Spells s cs → IsWhole cs
+pub spells_sound : {s : Shape} {cs : List Child} → without_error s ≡ true → Spells s cs → IsWhole cs
 spells_sound h no_child = refl
 spells_sound h (a_leaf m) = refl
 spells_sound h some_leaf = refl
@@ -73,11 +63,11 @@ spells_sound h (a_node {kinds = ks} {kind = k} m) =
     (λ e. subst (λ (j : ℕ). among ks j ≡ true) (same_number k ERROR e) m) h
 spells_sound h the_float = refl
 spells_sound h (in_order {a = a} {cs = cs} {ds = ds} s t) =
-    both_sound cs ds (spells_sound (and_left (without_error a) _ h) s) (spells_sound (and_right (without_error a) _ h) t)
+    both_whole cs ds (spells_sound (and_left (without_error a) _ h) s) (spells_sound (and_right (without_error a) _ h) t)
 spells_sound h (by_first {a = a} s) = spells_sound (and_left (without_error a) _ h) s
 spells_sound h (by_second {a = a} s) = spells_sound (and_right (without_error a) _ h) s
 spells_sound h no_more = refl
-spells_sound h (one_more {cs = cs} {ds = ds} s t) = both_sound cs ds (spells_sound h s) (spells_sound h t)
+spells_sound h (one_more {cs = cs} {ds = ds} s t) = both_whole cs ds (spells_sound h s) (spells_sound h t)
 
 -- whether the automata of their kinds take the nodes of rows
 abbrev pub fits : ℕ → Shape → Bool

@@ -55,18 +55,13 @@ extern_crate_states =
 abbrev pub extern_block_states : List State
 extern_block_states =
     state false (by_node attribute_kinds 0 ∷ by_one VISIBILITY 1 ∷ by_one IMPL_RESTRICTION 2 ∷ by_token CONST_KW 3 ∷
-    by_token ASYNC_KW 4 ∷ by_token GEN_KW 5 ∷ by_token UNSAFE_KW 6 ∷ by_token SAFE_KW 7 ∷ by_one ABI 8 ∷ []) ∷
-    state false (by_one IMPL_RESTRICTION 2 ∷ by_token CONST_KW 3 ∷ by_token ASYNC_KW 4 ∷ by_token GEN_KW 5 ∷
-    by_token UNSAFE_KW 6 ∷ by_token SAFE_KW 7 ∷ by_one ABI 8 ∷ []) ∷ state false (by_token CONST_KW 3 ∷
-    by_token ASYNC_KW 4 ∷ by_token GEN_KW 5 ∷ by_token UNSAFE_KW 6 ∷ by_token SAFE_KW 7 ∷ by_one ABI 8 ∷ []) ∷
-    state false (by_token ASYNC_KW 4 ∷ by_token GEN_KW 5 ∷ by_token UNSAFE_KW 6 ∷ by_token SAFE_KW 7 ∷ by_one ABI 8 ∷
-    []) ∷ state false (by_token GEN_KW 5 ∷ by_token UNSAFE_KW 6 ∷ by_token SAFE_KW 7 ∷ by_one ABI 8 ∷ []) ∷
-    state false (by_token UNSAFE_KW 6 ∷ by_token SAFE_KW 7 ∷ by_one ABI 8 ∷ []) ∷ state false (by_token SAFE_KW 7 ∷
-    by_one ABI 8 ∷ []) ∷ state false (by_one ABI 8 ∷ []) ∷ state false (by_token AUTO_KW 9 ∷ by_token DEFAULT_KW 10 ∷
-    by_one EXTERN_ITEM_LIST 11 ∷ []) ∷ state false (by_token DEFAULT_KW 10 ∷ by_one EXTERN_ITEM_LIST 11 ∷ []) ∷
-    state false (by_token ASYNC_KW 12 ∷ by_token UNSAFE_KW 13 ∷ by_one EXTERN_ITEM_LIST 11 ∷ []) ∷ state true [] ∷
-    state false (by_token UNSAFE_KW 13 ∷ by_one EXTERN_ITEM_LIST 11 ∷ []) ∷ state false (by_one EXTERN_ITEM_LIST 11 ∷
-    []) ∷ []
+    by_token ASYNC_KW 4 ∷ by_token UNSAFE_KW 5 ∷ by_token SAFE_KW 6 ∷ by_one ABI 7 ∷ []) ∷
+    state false (by_one IMPL_RESTRICTION 2 ∷ by_token CONST_KW 3 ∷ by_token ASYNC_KW 4 ∷ by_token UNSAFE_KW 5 ∷
+    by_token SAFE_KW 6 ∷ by_one ABI 7 ∷ []) ∷ state false (by_token CONST_KW 3 ∷ by_token ASYNC_KW 4 ∷
+    by_token UNSAFE_KW 5 ∷ by_token SAFE_KW 6 ∷ by_one ABI 7 ∷ []) ∷ state false (by_token ASYNC_KW 4 ∷
+    by_token UNSAFE_KW 5 ∷ by_token SAFE_KW 6 ∷ by_one ABI 7 ∷ []) ∷ state false (by_token UNSAFE_KW 5 ∷
+    by_token SAFE_KW 6 ∷ by_one ABI 7 ∷ []) ∷ state false (by_token SAFE_KW 6 ∷ by_one ABI 7 ∷ []) ∷
+    state false (by_one ABI 7 ∷ []) ∷ state false (by_one EXTERN_ITEM_LIST 8 ∷ []) ∷ state true [] ∷ []
 
 abbrev pub extern_item_list_states : List State
 extern_item_list_states =
@@ -84,28 +79,22 @@ mut_restriction_states =
 abbrev pub type_alias_states : List State
 type_alias_states =
     state false (by_node attribute_kinds 0 ∷ by_one VISIBILITY 1 ∷ by_one IMPL_RESTRICTION 2 ∷ by_token CONST_KW 3 ∷
-    by_token ASYNC_KW 4 ∷ by_token GEN_KW 5 ∷ by_token UNSAFE_KW 6 ∷ by_token SAFE_KW 7 ∷ by_one ABI 8 ∷
-    by_token AUTO_KW 9 ∷ by_token DEFAULT_KW 10 ∷ by_token TYPE_KW 11 ∷ []) ∷ state false (by_one IMPL_RESTRICTION 2 ∷
-    by_token CONST_KW 3 ∷ by_token ASYNC_KW 4 ∷ by_token GEN_KW 5 ∷ by_token UNSAFE_KW 6 ∷ by_token SAFE_KW 7 ∷
-    by_one ABI 8 ∷ by_token AUTO_KW 9 ∷ by_token DEFAULT_KW 10 ∷ by_token TYPE_KW 11 ∷ []) ∷
-    state false (by_token CONST_KW 3 ∷ by_token ASYNC_KW 4 ∷ by_token GEN_KW 5 ∷ by_token UNSAFE_KW 6 ∷
-    by_token SAFE_KW 7 ∷ by_one ABI 8 ∷ by_token AUTO_KW 9 ∷ by_token DEFAULT_KW 10 ∷ by_token TYPE_KW 11 ∷ []) ∷
-    state false (by_token ASYNC_KW 4 ∷ by_token GEN_KW 5 ∷ by_token UNSAFE_KW 6 ∷ by_token SAFE_KW 7 ∷ by_one ABI 8 ∷
-    by_token AUTO_KW 9 ∷ by_token DEFAULT_KW 10 ∷ by_token TYPE_KW 11 ∷ []) ∷ state false (by_token GEN_KW 5 ∷
-    by_token UNSAFE_KW 6 ∷ by_token SAFE_KW 7 ∷ by_one ABI 8 ∷ by_token AUTO_KW 9 ∷ by_token DEFAULT_KW 10 ∷
-    by_token TYPE_KW 11 ∷ []) ∷ state false (by_token UNSAFE_KW 6 ∷ by_token SAFE_KW 7 ∷ by_one ABI 8 ∷
-    by_token AUTO_KW 9 ∷ by_token DEFAULT_KW 10 ∷ by_token TYPE_KW 11 ∷ []) ∷ state false (by_token SAFE_KW 7 ∷
-    by_one ABI 8 ∷ by_token AUTO_KW 9 ∷ by_token DEFAULT_KW 10 ∷ by_token TYPE_KW 11 ∷ []) ∷ state false (by_one ABI 8 ∷
-    by_token AUTO_KW 9 ∷ by_token DEFAULT_KW 10 ∷ by_token TYPE_KW 11 ∷ []) ∷ state false (by_token AUTO_KW 9 ∷
-    by_token DEFAULT_KW 10 ∷ by_token TYPE_KW 11 ∷ []) ∷ state false (by_token DEFAULT_KW 10 ∷ by_token TYPE_KW 11 ∷ [])
-    ∷ state false (by_token ASYNC_KW 12 ∷ by_token UNSAFE_KW 13 ∷ by_token TYPE_KW 11 ∷ []) ∷
-    state false (by_one NAME 14 ∷ []) ∷ state false (by_token UNSAFE_KW 13 ∷ by_token TYPE_KW 11 ∷ []) ∷
-    state false (by_token TYPE_KW 11 ∷ []) ∷ state false (by_one GENERIC_PARAM_LIST 15 ∷ by_token COLON 16 ∷
-    by_one WHERE_CLAUSE 17 ∷ by_token EQ 18 ∷ by_token SEMICOLON 19 ∷ []) ∷ state false (by_token COLON 16 ∷
-    by_one WHERE_CLAUSE 17 ∷ by_token EQ 18 ∷ by_token SEMICOLON 19 ∷ []) ∷ state false (by_one TYPE_BOUND_LIST 20 ∷ [])
-    ∷ state false (by_token EQ 18 ∷ by_one WHERE_CLAUSE 21 ∷ by_token SEMICOLON 19 ∷ []) ∷ state false (by_node types 22
-    ∷ []) ∷ state true [] ∷ state false (by_one WHERE_CLAUSE 17 ∷ by_token EQ 18 ∷ by_token SEMICOLON 19 ∷ []) ∷
-    state false (by_token SEMICOLON 19 ∷ []) ∷ state false (by_one WHERE_CLAUSE 21 ∷ by_token SEMICOLON 19 ∷ []) ∷ []
+    by_token ASYNC_KW 4 ∷ by_token UNSAFE_KW 5 ∷ by_token SAFE_KW 6 ∷ by_one ABI 7 ∷ by_token DEFAULT_KW 8 ∷
+    by_token TYPE_KW 9 ∷ []) ∷ state false (by_one IMPL_RESTRICTION 2 ∷ by_token CONST_KW 3 ∷ by_token ASYNC_KW 4 ∷
+    by_token UNSAFE_KW 5 ∷ by_token SAFE_KW 6 ∷ by_one ABI 7 ∷ by_token DEFAULT_KW 8 ∷ by_token TYPE_KW 9 ∷ []) ∷
+    state false (by_token CONST_KW 3 ∷ by_token ASYNC_KW 4 ∷ by_token UNSAFE_KW 5 ∷ by_token SAFE_KW 6 ∷ by_one ABI 7 ∷
+    by_token DEFAULT_KW 8 ∷ by_token TYPE_KW 9 ∷ []) ∷ state false (by_token ASYNC_KW 4 ∷ by_token UNSAFE_KW 5 ∷
+    by_token SAFE_KW 6 ∷ by_one ABI 7 ∷ by_token DEFAULT_KW 8 ∷ by_token TYPE_KW 9 ∷ []) ∷
+    state false (by_token UNSAFE_KW 5 ∷ by_token SAFE_KW 6 ∷ by_one ABI 7 ∷ by_token DEFAULT_KW 8 ∷ by_token TYPE_KW 9 ∷
+    []) ∷ state false (by_token SAFE_KW 6 ∷ by_one ABI 7 ∷ by_token DEFAULT_KW 8 ∷ by_token TYPE_KW 9 ∷ []) ∷
+    state false (by_one ABI 7 ∷ by_token DEFAULT_KW 8 ∷ by_token TYPE_KW 9 ∷ []) ∷ state false (by_token DEFAULT_KW 8 ∷
+    by_token TYPE_KW 9 ∷ []) ∷ state false (by_token TYPE_KW 9 ∷ []) ∷ state false (by_one NAME 10 ∷ []) ∷
+    state false (by_one GENERIC_PARAM_LIST 11 ∷ by_token COLON 12 ∷ by_one WHERE_CLAUSE 13 ∷ by_token EQ 14 ∷
+    by_token SEMICOLON 15 ∷ []) ∷ state false (by_token COLON 12 ∷ by_one WHERE_CLAUSE 13 ∷ by_token EQ 14 ∷
+    by_token SEMICOLON 15 ∷ []) ∷ state false (by_one TYPE_BOUND_LIST 16 ∷ []) ∷ state false (by_token EQ 14 ∷
+    by_one WHERE_CLAUSE 17 ∷ by_token SEMICOLON 15 ∷ []) ∷ state false (by_node types 18 ∷ []) ∷ state true [] ∷
+    state false (by_one WHERE_CLAUSE 13 ∷ by_token EQ 14 ∷ by_token SEMICOLON 15 ∷ []) ∷
+    state false (by_token SEMICOLON 15 ∷ []) ∷ state false (by_one WHERE_CLAUSE 17 ∷ by_token SEMICOLON 15 ∷ []) ∷ []
 
 abbrev pub macro_rules_states : List State
 macro_rules_states =
@@ -123,25 +112,22 @@ abbrev pub fn_states : List State
 fn_states =
     state false (by_node attribute_kinds 0 ∷ by_one VISIBILITY 1 ∷ by_one IMPL_RESTRICTION 2 ∷ by_token CONST_KW 3 ∷
     by_token ASYNC_KW 4 ∷ by_token GEN_KW 5 ∷ by_token UNSAFE_KW 6 ∷ by_token SAFE_KW 7 ∷ by_one ABI 8 ∷
-    by_token AUTO_KW 9 ∷ by_token DEFAULT_KW 10 ∷ by_token FN_KW 11 ∷ []) ∷ state false (by_one IMPL_RESTRICTION 2 ∷
-    by_token CONST_KW 3 ∷ by_token ASYNC_KW 4 ∷ by_token GEN_KW 5 ∷ by_token UNSAFE_KW 6 ∷ by_token SAFE_KW 7 ∷
-    by_one ABI 8 ∷ by_token AUTO_KW 9 ∷ by_token DEFAULT_KW 10 ∷ by_token FN_KW 11 ∷ []) ∷
-    state false (by_token CONST_KW 3 ∷ by_token ASYNC_KW 4 ∷ by_token GEN_KW 5 ∷ by_token UNSAFE_KW 6 ∷
-    by_token SAFE_KW 7 ∷ by_one ABI 8 ∷ by_token AUTO_KW 9 ∷ by_token DEFAULT_KW 10 ∷ by_token FN_KW 11 ∷ []) ∷
-    state false (by_token ASYNC_KW 4 ∷ by_token GEN_KW 5 ∷ by_token UNSAFE_KW 6 ∷ by_token SAFE_KW 7 ∷ by_one ABI 8 ∷
-    by_token AUTO_KW 9 ∷ by_token DEFAULT_KW 10 ∷ by_token FN_KW 11 ∷ []) ∷ state false (by_token GEN_KW 5 ∷
-    by_token UNSAFE_KW 6 ∷ by_token SAFE_KW 7 ∷ by_one ABI 8 ∷ by_token AUTO_KW 9 ∷ by_token DEFAULT_KW 10 ∷
-    by_token FN_KW 11 ∷ []) ∷ state false (by_token UNSAFE_KW 6 ∷ by_token SAFE_KW 7 ∷ by_one ABI 8 ∷ by_token AUTO_KW 9
-    ∷ by_token DEFAULT_KW 10 ∷ by_token FN_KW 11 ∷ []) ∷ state false (by_token SAFE_KW 7 ∷ by_one ABI 8 ∷
-    by_token AUTO_KW 9 ∷ by_token DEFAULT_KW 10 ∷ by_token FN_KW 11 ∷ []) ∷ state false (by_one ABI 8 ∷
-    by_token AUTO_KW 9 ∷ by_token DEFAULT_KW 10 ∷ by_token FN_KW 11 ∷ []) ∷ state false (by_token AUTO_KW 9 ∷
-    by_token DEFAULT_KW 10 ∷ by_token FN_KW 11 ∷ []) ∷ state false (by_token DEFAULT_KW 10 ∷ by_token FN_KW 11 ∷ []) ∷
-    state false (by_token ASYNC_KW 12 ∷ by_token UNSAFE_KW 13 ∷ by_token FN_KW 11 ∷ []) ∷ state false (by_one NAME 14 ∷
-    []) ∷ state false (by_token UNSAFE_KW 13 ∷ by_token FN_KW 11 ∷ []) ∷ state false (by_token FN_KW 11 ∷ []) ∷
-    state false (by_one GENERIC_PARAM_LIST 15 ∷ by_one PARAM_LIST 16 ∷ []) ∷ state false (by_one PARAM_LIST 16 ∷ []) ∷
-    state false (by_one RET_TYPE 17 ∷ by_one WHERE_CLAUSE 18 ∷ by_token SEMICOLON 19 ∷ by_one BLOCK_EXPR 19 ∷ []) ∷
-    state false (by_one WHERE_CLAUSE 18 ∷ by_token SEMICOLON 19 ∷ by_one BLOCK_EXPR 19 ∷ []) ∷
-    state false (by_token SEMICOLON 19 ∷ by_one BLOCK_EXPR 19 ∷ []) ∷ state true [] ∷ []
+    by_token DEFAULT_KW 9 ∷ by_token FN_KW 10 ∷ []) ∷ state false (by_one IMPL_RESTRICTION 2 ∷ by_token CONST_KW 3 ∷
+    by_token ASYNC_KW 4 ∷ by_token GEN_KW 5 ∷ by_token UNSAFE_KW 6 ∷ by_token SAFE_KW 7 ∷ by_one ABI 8 ∷
+    by_token DEFAULT_KW 9 ∷ by_token FN_KW 10 ∷ []) ∷ state false (by_token CONST_KW 3 ∷ by_token ASYNC_KW 4 ∷
+    by_token GEN_KW 5 ∷ by_token UNSAFE_KW 6 ∷ by_token SAFE_KW 7 ∷ by_one ABI 8 ∷ by_token DEFAULT_KW 9 ∷
+    by_token FN_KW 10 ∷ []) ∷ state false (by_token ASYNC_KW 4 ∷ by_token GEN_KW 5 ∷ by_token UNSAFE_KW 6 ∷
+    by_token SAFE_KW 7 ∷ by_one ABI 8 ∷ by_token DEFAULT_KW 9 ∷ by_token FN_KW 10 ∷ []) ∷ state false (by_token GEN_KW 5
+    ∷ by_token UNSAFE_KW 6 ∷ by_token SAFE_KW 7 ∷ by_one ABI 8 ∷ by_token DEFAULT_KW 9 ∷ by_token FN_KW 10 ∷ []) ∷
+    state false (by_token FN_KW 10 ∷ []) ∷ state false (by_token SAFE_KW 7 ∷ by_one ABI 8 ∷ by_token DEFAULT_KW 9 ∷
+    by_token FN_KW 10 ∷ []) ∷ state false (by_one ABI 8 ∷ by_token DEFAULT_KW 9 ∷ by_token FN_KW 10 ∷ []) ∷
+    state false (by_token DEFAULT_KW 9 ∷ by_token FN_KW 10 ∷ []) ∷ state false (by_token ASYNC_KW 11 ∷
+    by_token UNSAFE_KW 5 ∷ by_token FN_KW 10 ∷ []) ∷ state false (by_one NAME 12 ∷ []) ∷
+    state false (by_token UNSAFE_KW 5 ∷ by_token FN_KW 10 ∷ []) ∷ state false (by_one GENERIC_PARAM_LIST 13 ∷
+    by_one PARAM_LIST 14 ∷ []) ∷ state false (by_one PARAM_LIST 14 ∷ []) ∷ state false (by_one RET_TYPE 15 ∷
+    by_one WHERE_CLAUSE 16 ∷ by_token SEMICOLON 17 ∷ by_one BLOCK_EXPR 17 ∷ []) ∷ state false (by_one WHERE_CLAUSE 16 ∷
+    by_token SEMICOLON 17 ∷ by_one BLOCK_EXPR 17 ∷ []) ∷ state false (by_token SEMICOLON 17 ∷ by_one BLOCK_EXPR 17 ∷ [])
+    ∷ state true [] ∷ []
 
 abbrev pub token_tree_states : List State
 token_tree_states =
@@ -162,9 +148,9 @@ abbrev pub union_states : List State
 union_states =
     state false (by_node attribute_kinds 0 ∷ by_one VISIBILITY 1 ∷ by_token UNION_KW 2 ∷ []) ∷
     state false (by_token UNION_KW 2 ∷ []) ∷ state false (by_one NAME 3 ∷ []) ∷ state false (by_one GENERIC_PARAM_LIST 4
-    ∷ by_one WHERE_CLAUSE 5 ∷ by_token SEMICOLON 6 ∷ by_one RECORD_FIELD_LIST 6 ∷ []) ∷
-    state false (by_one WHERE_CLAUSE 5 ∷ by_token SEMICOLON 6 ∷ by_one RECORD_FIELD_LIST 6 ∷ []) ∷
-    state false (by_token SEMICOLON 6 ∷ by_one RECORD_FIELD_LIST 6 ∷ []) ∷ state true [] ∷ []
+    ∷ by_one WHERE_CLAUSE 5 ∷ by_one RECORD_FIELD_LIST 6 ∷ []) ∷ state false (by_one WHERE_CLAUSE 5 ∷
+    by_one RECORD_FIELD_LIST 6 ∷ []) ∷ state false (by_one RECORD_FIELD_LIST 6 ∷ by_token SEMICOLON 6 ∷ []) ∷
+    state true [] ∷ []
 
 abbrev pub enum_states : List State
 enum_states =
@@ -176,7 +162,7 @@ enum_states =
 abbrev pub variant_list_states : List State
 variant_list_states =
     state false (by_token L_CURLY 1 ∷ []) ∷ state false (by_one VARIANT 2 ∷ by_token R_CURLY 3 ∷ []) ∷
-    state false (by_token COMMA 1 ∷ by_one VARIANT 2 ∷ by_token R_CURLY 3 ∷ []) ∷ state true [] ∷ []
+    state false (by_token COMMA 1 ∷ by_token R_CURLY 3 ∷ []) ∷ state true [] ∷ []
 
 abbrev pub variant_states : List State
 variant_states =
@@ -187,7 +173,7 @@ variant_states =
 abbrev pub record_field_list_states : List State
 record_field_list_states =
     state false (by_token L_CURLY 1 ∷ []) ∷ state false (by_one RECORD_FIELD 2 ∷ by_token R_CURLY 3 ∷ []) ∷
-    state false (by_token COMMA 1 ∷ by_one RECORD_FIELD 2 ∷ by_token R_CURLY 3 ∷ []) ∷ state true [] ∷ []
+    state false (by_token COMMA 1 ∷ by_token R_CURLY 3 ∷ []) ∷ state true [] ∷ []
 
 abbrev pub record_field_states : List State
 record_field_states =
@@ -211,107 +197,80 @@ tuple_field_states =
 abbrev pub const_states : List State
 const_states =
     state false (by_node attribute_kinds 0 ∷ by_one VISIBILITY 1 ∷ by_one IMPL_RESTRICTION 2 ∷ by_token CONST_KW 3 ∷
-    by_token ASYNC_KW 4 ∷ by_token GEN_KW 5 ∷ by_token UNSAFE_KW 6 ∷ by_token SAFE_KW 7 ∷ by_one ABI 8 ∷
-    by_token AUTO_KW 9 ∷ by_token DEFAULT_KW 10 ∷ by_token TYPE_KW 11 ∷ []) ∷ state false (by_one IMPL_RESTRICTION 2 ∷
-    by_token CONST_KW 3 ∷ by_token ASYNC_KW 4 ∷ by_token GEN_KW 5 ∷ by_token UNSAFE_KW 6 ∷ by_token SAFE_KW 7 ∷
-    by_one ABI 8 ∷ by_token AUTO_KW 9 ∷ by_token DEFAULT_KW 10 ∷ by_token TYPE_KW 11 ∷ []) ∷
-    state false (by_token CONST_KW 3 ∷ by_token ASYNC_KW 4 ∷ by_token GEN_KW 5 ∷ by_token UNSAFE_KW 6 ∷
-    by_token SAFE_KW 7 ∷ by_one ABI 8 ∷ by_token AUTO_KW 9 ∷ by_token DEFAULT_KW 10 ∷ by_token TYPE_KW 11 ∷ []) ∷
-    state false (by_token ASYNC_KW 4 ∷ by_token GEN_KW 5 ∷ by_token UNSAFE_KW 6 ∷ by_token SAFE_KW 7 ∷ by_one ABI 8 ∷
-    by_token AUTO_KW 9 ∷ by_token DEFAULT_KW 10 ∷ by_token TYPE_KW 11 ∷ by_token CONST_KW 12 ∷ by_token MUT_KW 13 ∷
-    by_one NAME 14 ∷ by_token UNDERSCORE 14 ∷ []) ∷ state false (by_token GEN_KW 5 ∷ by_token UNSAFE_KW 6 ∷
-    by_token SAFE_KW 7 ∷ by_one ABI 8 ∷ by_token AUTO_KW 9 ∷ by_token DEFAULT_KW 10 ∷ by_token TYPE_KW 11 ∷
-    by_token CONST_KW 12 ∷ []) ∷ state false (by_token UNSAFE_KW 6 ∷ by_token SAFE_KW 7 ∷ by_one ABI 8 ∷
-    by_token AUTO_KW 9 ∷ by_token DEFAULT_KW 10 ∷ by_token TYPE_KW 11 ∷ by_token CONST_KW 12 ∷ []) ∷
-    state false (by_token SAFE_KW 7 ∷ by_one ABI 8 ∷ by_token AUTO_KW 9 ∷ by_token DEFAULT_KW 10 ∷ by_token TYPE_KW 11 ∷
-    by_token CONST_KW 12 ∷ []) ∷ state false (by_one ABI 8 ∷ by_token AUTO_KW 9 ∷ by_token DEFAULT_KW 10 ∷
-    by_token TYPE_KW 11 ∷ by_token CONST_KW 12 ∷ []) ∷ state false (by_token AUTO_KW 9 ∷ by_token DEFAULT_KW 10 ∷
-    by_token TYPE_KW 11 ∷ by_token CONST_KW 12 ∷ []) ∷ state false (by_token DEFAULT_KW 10 ∷ by_token TYPE_KW 11 ∷
-    by_token CONST_KW 12 ∷ []) ∷ state false (by_token ASYNC_KW 15 ∷ by_token UNSAFE_KW 16 ∷ by_token TYPE_KW 11 ∷
-    by_token CONST_KW 12 ∷ []) ∷ state false (by_token CONST_KW 12 ∷ []) ∷ state false (by_token MUT_KW 13 ∷
-    by_one NAME 14 ∷ by_token UNDERSCORE 14 ∷ []) ∷ state false (by_one NAME 14 ∷ by_token UNDERSCORE 14 ∷ []) ∷
-    state false (by_one GENERIC_PARAM_LIST 17 ∷ by_token COLON 18 ∷ []) ∷ state false (by_token UNSAFE_KW 16 ∷
-    by_token TYPE_KW 11 ∷ by_token CONST_KW 12 ∷ []) ∷ state false (by_token TYPE_KW 11 ∷ by_token CONST_KW 12 ∷ []) ∷
-    state false (by_token COLON 18 ∷ []) ∷ state false (by_node types 19 ∷ []) ∷ state false (by_token EQ 20 ∷
-    by_one WHERE_CLAUSE 21 ∷ by_token SEMICOLON 22 ∷ []) ∷ state false (by_node expressions 23 ∷ []) ∷
-    state false (by_token SEMICOLON 22 ∷ []) ∷ state true [] ∷ state false (by_one WHERE_CLAUSE 21 ∷
-    by_token SEMICOLON 22 ∷ []) ∷ []
+    by_token ASYNC_KW 4 ∷ by_token UNSAFE_KW 5 ∷ by_token SAFE_KW 6 ∷ by_one ABI 7 ∷ by_token DEFAULT_KW 8 ∷
+    by_token TYPE_KW 9 ∷ []) ∷ state false (by_one IMPL_RESTRICTION 2 ∷ by_token CONST_KW 3 ∷ by_token ASYNC_KW 4 ∷
+    by_token UNSAFE_KW 5 ∷ by_token SAFE_KW 6 ∷ by_one ABI 7 ∷ by_token DEFAULT_KW 8 ∷ by_token TYPE_KW 9 ∷ []) ∷
+    state false (by_token CONST_KW 3 ∷ by_token ASYNC_KW 4 ∷ by_token UNSAFE_KW 5 ∷ by_token SAFE_KW 6 ∷ by_one ABI 7 ∷
+    by_token DEFAULT_KW 8 ∷ by_token TYPE_KW 9 ∷ []) ∷ state false (by_token ASYNC_KW 4 ∷ by_token UNSAFE_KW 5 ∷
+    by_token SAFE_KW 6 ∷ by_one ABI 7 ∷ by_token DEFAULT_KW 8 ∷ by_token TYPE_KW 9 ∷ by_token CONST_KW 10 ∷
+    by_token MUT_KW 11 ∷ by_one NAME 12 ∷ by_token UNDERSCORE 12 ∷ []) ∷ state false (by_token UNSAFE_KW 5 ∷
+    by_token SAFE_KW 6 ∷ by_one ABI 7 ∷ by_token DEFAULT_KW 8 ∷ by_token TYPE_KW 9 ∷ by_token CONST_KW 10 ∷ []) ∷
+    state false (by_token SAFE_KW 6 ∷ by_one ABI 7 ∷ by_token DEFAULT_KW 8 ∷ by_token TYPE_KW 9 ∷ by_token CONST_KW 10 ∷
+    []) ∷ state false (by_one ABI 7 ∷ by_token DEFAULT_KW 8 ∷ by_token TYPE_KW 9 ∷ by_token CONST_KW 10 ∷ []) ∷
+    state false (by_token DEFAULT_KW 8 ∷ by_token TYPE_KW 9 ∷ by_token CONST_KW 10 ∷ []) ∷
+    state false (by_token TYPE_KW 9 ∷ by_token CONST_KW 10 ∷ []) ∷ state false (by_token CONST_KW 10 ∷ []) ∷
+    state false (by_token MUT_KW 11 ∷ by_one NAME 12 ∷ by_token UNDERSCORE 12 ∷ []) ∷ state false (by_one NAME 12 ∷
+    by_token UNDERSCORE 12 ∷ []) ∷ state false (by_one GENERIC_PARAM_LIST 13 ∷ by_token COLON 14 ∷ []) ∷
+    state false (by_token COLON 14 ∷ []) ∷ state false (by_node types 15 ∷ []) ∷ state false (by_token EQ 16 ∷
+    by_one WHERE_CLAUSE 17 ∷ by_token SEMICOLON 18 ∷ []) ∷ state false (by_node expressions 19 ∷ []) ∷
+    state false (by_token SEMICOLON 18 ∷ []) ∷ state true [] ∷ state false (by_one WHERE_CLAUSE 17 ∷
+    by_token SEMICOLON 18 ∷ []) ∷ []
 
 abbrev pub static_states : List State
 static_states =
     state false (by_node attribute_kinds 0 ∷ by_one VISIBILITY 1 ∷ by_one IMPL_RESTRICTION 2 ∷ by_token CONST_KW 3 ∷
-    by_token ASYNC_KW 4 ∷ by_token GEN_KW 5 ∷ by_token UNSAFE_KW 6 ∷ by_token SAFE_KW 7 ∷ by_one ABI 8 ∷
-    by_token AUTO_KW 9 ∷ by_token DEFAULT_KW 10 ∷ by_token STATIC_KW 11 ∷ []) ∷ state false (by_one IMPL_RESTRICTION 2 ∷
-    by_token CONST_KW 3 ∷ by_token ASYNC_KW 4 ∷ by_token GEN_KW 5 ∷ by_token UNSAFE_KW 6 ∷ by_token SAFE_KW 7 ∷
-    by_one ABI 8 ∷ by_token AUTO_KW 9 ∷ by_token DEFAULT_KW 10 ∷ by_token STATIC_KW 11 ∷ []) ∷
-    state false (by_token CONST_KW 3 ∷ by_token ASYNC_KW 4 ∷ by_token GEN_KW 5 ∷ by_token UNSAFE_KW 6 ∷
-    by_token SAFE_KW 7 ∷ by_one ABI 8 ∷ by_token AUTO_KW 9 ∷ by_token DEFAULT_KW 10 ∷ by_token STATIC_KW 11 ∷ []) ∷
-    state false (by_token ASYNC_KW 4 ∷ by_token GEN_KW 5 ∷ by_token UNSAFE_KW 6 ∷ by_token SAFE_KW 7 ∷ by_one ABI 8 ∷
-    by_token AUTO_KW 9 ∷ by_token DEFAULT_KW 10 ∷ by_token STATIC_KW 11 ∷ []) ∷ state false (by_token GEN_KW 5 ∷
-    by_token UNSAFE_KW 6 ∷ by_token SAFE_KW 7 ∷ by_one ABI 8 ∷ by_token AUTO_KW 9 ∷ by_token DEFAULT_KW 10 ∷
-    by_token STATIC_KW 11 ∷ []) ∷ state false (by_token UNSAFE_KW 6 ∷ by_token SAFE_KW 7 ∷ by_one ABI 8 ∷
-    by_token AUTO_KW 9 ∷ by_token DEFAULT_KW 10 ∷ by_token STATIC_KW 11 ∷ []) ∷ state false (by_token SAFE_KW 7 ∷
-    by_one ABI 8 ∷ by_token AUTO_KW 9 ∷ by_token DEFAULT_KW 10 ∷ by_token STATIC_KW 11 ∷ []) ∷ state false (by_one ABI 8
-    ∷ by_token AUTO_KW 9 ∷ by_token DEFAULT_KW 10 ∷ by_token STATIC_KW 11 ∷ []) ∷ state false (by_token AUTO_KW 9 ∷
-    by_token DEFAULT_KW 10 ∷ by_token STATIC_KW 11 ∷ []) ∷ state false (by_token DEFAULT_KW 10 ∷ by_token STATIC_KW 11 ∷
-    []) ∷ state false (by_token ASYNC_KW 12 ∷ by_token UNSAFE_KW 13 ∷ by_token STATIC_KW 11 ∷ []) ∷
-    state false (by_token MUT_KW 14 ∷ by_one NAME 15 ∷ []) ∷ state false (by_token UNSAFE_KW 13 ∷ by_token STATIC_KW 11
-    ∷ []) ∷ state false (by_token STATIC_KW 11 ∷ []) ∷ state false (by_one NAME 15 ∷ []) ∷
-    state false (by_one GENERIC_PARAM_LIST 16 ∷ by_token COLON 17 ∷ []) ∷ state false (by_token COLON 17 ∷ []) ∷
-    state false (by_node types 18 ∷ []) ∷ state false (by_token EQ 19 ∷ by_token SEMICOLON 20 ∷ []) ∷
-    state false (by_node expressions 21 ∷ []) ∷ state true [] ∷ state false (by_token SEMICOLON 20 ∷ []) ∷ []
+    by_token ASYNC_KW 4 ∷ by_token UNSAFE_KW 5 ∷ by_token SAFE_KW 6 ∷ by_one ABI 7 ∷ by_token STATIC_KW 8 ∷ []) ∷
+    state false (by_one IMPL_RESTRICTION 2 ∷ by_token CONST_KW 3 ∷ by_token ASYNC_KW 4 ∷ by_token UNSAFE_KW 5 ∷
+    by_token SAFE_KW 6 ∷ by_one ABI 7 ∷ by_token STATIC_KW 8 ∷ []) ∷ state false (by_token CONST_KW 3 ∷
+    by_token ASYNC_KW 4 ∷ by_token UNSAFE_KW 5 ∷ by_token SAFE_KW 6 ∷ by_one ABI 7 ∷ by_token STATIC_KW 8 ∷ []) ∷
+    state false (by_token ASYNC_KW 4 ∷ by_token UNSAFE_KW 5 ∷ by_token SAFE_KW 6 ∷ by_one ABI 7 ∷ by_token STATIC_KW 8 ∷
+    []) ∷ state false (by_token UNSAFE_KW 5 ∷ by_token SAFE_KW 6 ∷ by_one ABI 7 ∷ by_token STATIC_KW 8 ∷ []) ∷
+    state false (by_token SAFE_KW 6 ∷ by_one ABI 7 ∷ by_token STATIC_KW 8 ∷ []) ∷ state false (by_one ABI 7 ∷
+    by_token STATIC_KW 8 ∷ []) ∷ state false (by_token STATIC_KW 8 ∷ []) ∷ state false (by_token MUT_KW 9 ∷
+    by_one NAME 10 ∷ []) ∷ state false (by_one NAME 10 ∷ []) ∷ state false (by_one GENERIC_PARAM_LIST 11 ∷
+    by_token COLON 12 ∷ []) ∷ state false (by_token COLON 12 ∷ []) ∷ state false (by_node types 13 ∷ []) ∷
+    state false (by_token EQ 14 ∷ by_token SEMICOLON 15 ∷ []) ∷ state false (by_node expressions 16 ∷ []) ∷
+    state true [] ∷ state false (by_token SEMICOLON 15 ∷ []) ∷ []
 
 abbrev pub trait_states : List State
 trait_states =
     state false (by_node attribute_kinds 0 ∷ by_one VISIBILITY 1 ∷ by_one IMPL_RESTRICTION 2 ∷ by_token CONST_KW 3 ∷
-    by_token ASYNC_KW 4 ∷ by_token GEN_KW 5 ∷ by_token UNSAFE_KW 6 ∷ by_token SAFE_KW 7 ∷ by_one ABI 8 ∷
-    by_token AUTO_KW 9 ∷ by_token DEFAULT_KW 10 ∷ by_token TRAIT_KW 11 ∷ []) ∷ state false (by_one IMPL_RESTRICTION 2 ∷
-    by_token CONST_KW 3 ∷ by_token ASYNC_KW 4 ∷ by_token GEN_KW 5 ∷ by_token UNSAFE_KW 6 ∷ by_token SAFE_KW 7 ∷
-    by_one ABI 8 ∷ by_token AUTO_KW 9 ∷ by_token DEFAULT_KW 10 ∷ by_token TRAIT_KW 11 ∷ []) ∷
-    state false (by_token CONST_KW 3 ∷ by_token ASYNC_KW 4 ∷ by_token GEN_KW 5 ∷ by_token UNSAFE_KW 6 ∷
-    by_token SAFE_KW 7 ∷ by_one ABI 8 ∷ by_token AUTO_KW 9 ∷ by_token DEFAULT_KW 10 ∷ by_token TRAIT_KW 11 ∷ []) ∷
-    state false (by_token ASYNC_KW 4 ∷ by_token GEN_KW 5 ∷ by_token UNSAFE_KW 6 ∷ by_token SAFE_KW 7 ∷ by_one ABI 8 ∷
-    by_token AUTO_KW 9 ∷ by_token DEFAULT_KW 10 ∷ by_token TRAIT_KW 11 ∷ []) ∷ state false (by_token GEN_KW 5 ∷
-    by_token UNSAFE_KW 6 ∷ by_token SAFE_KW 7 ∷ by_one ABI 8 ∷ by_token AUTO_KW 9 ∷ by_token DEFAULT_KW 10 ∷
-    by_token TRAIT_KW 11 ∷ []) ∷ state false (by_token UNSAFE_KW 6 ∷ by_token SAFE_KW 7 ∷ by_one ABI 8 ∷
-    by_token AUTO_KW 9 ∷ by_token DEFAULT_KW 10 ∷ by_token TRAIT_KW 11 ∷ []) ∷ state false (by_token SAFE_KW 7 ∷
-    by_one ABI 8 ∷ by_token AUTO_KW 9 ∷ by_token DEFAULT_KW 10 ∷ by_token TRAIT_KW 11 ∷ []) ∷ state false (by_one ABI 8
-    ∷ by_token AUTO_KW 9 ∷ by_token DEFAULT_KW 10 ∷ by_token TRAIT_KW 11 ∷ []) ∷ state false (by_token AUTO_KW 9 ∷
-    by_token DEFAULT_KW 10 ∷ by_token TRAIT_KW 11 ∷ []) ∷ state false (by_token DEFAULT_KW 10 ∷ by_token TRAIT_KW 11 ∷
-    []) ∷ state false (by_token ASYNC_KW 12 ∷ by_token UNSAFE_KW 13 ∷ by_token TRAIT_KW 11 ∷ []) ∷
-    state false (by_one NAME 14 ∷ []) ∷ state false (by_token UNSAFE_KW 13 ∷ by_token TRAIT_KW 11 ∷ []) ∷
-    state false (by_token TRAIT_KW 11 ∷ []) ∷ state false (by_one GENERIC_PARAM_LIST 15 ∷ by_token COLON 16 ∷
-    by_one WHERE_CLAUSE 17 ∷ by_one ASSOC_ITEM_LIST 18 ∷ by_token EQ 19 ∷ []) ∷ state false (by_token COLON 16 ∷
-    by_one WHERE_CLAUSE 17 ∷ by_one ASSOC_ITEM_LIST 18 ∷ by_token EQ 19 ∷ []) ∷ state false (by_one TYPE_BOUND_LIST 20 ∷
-    []) ∷ state false (by_one ASSOC_ITEM_LIST 18 ∷ []) ∷ state true [] ∷ state false (by_one TYPE_BOUND_LIST 21 ∷ []) ∷
-    state false (by_one WHERE_CLAUSE 17 ∷ by_one ASSOC_ITEM_LIST 18 ∷ []) ∷ state false (by_one WHERE_CLAUSE 22 ∷
-    by_token SEMICOLON 18 ∷ []) ∷ state false (by_token SEMICOLON 18 ∷ []) ∷ []
+    by_token ASYNC_KW 4 ∷ by_token UNSAFE_KW 5 ∷ by_token SAFE_KW 6 ∷ by_one ABI 7 ∷ by_token AUTO_KW 8 ∷
+    by_token TRAIT_KW 9 ∷ []) ∷ state false (by_one IMPL_RESTRICTION 2 ∷ by_token CONST_KW 3 ∷ by_token ASYNC_KW 4 ∷
+    by_token UNSAFE_KW 5 ∷ by_token SAFE_KW 6 ∷ by_one ABI 7 ∷ by_token AUTO_KW 8 ∷ by_token TRAIT_KW 9 ∷ []) ∷
+    state false (by_token CONST_KW 3 ∷ by_token ASYNC_KW 4 ∷ by_token UNSAFE_KW 5 ∷ by_token SAFE_KW 6 ∷ by_one ABI 7 ∷
+    by_token AUTO_KW 8 ∷ by_token TRAIT_KW 9 ∷ []) ∷ state false (by_token ASYNC_KW 4 ∷ by_token UNSAFE_KW 5 ∷
+    by_token SAFE_KW 6 ∷ by_one ABI 7 ∷ by_token AUTO_KW 8 ∷ by_token TRAIT_KW 9 ∷ []) ∷
+    state false (by_token UNSAFE_KW 5 ∷ by_token SAFE_KW 6 ∷ by_one ABI 7 ∷ by_token AUTO_KW 8 ∷ by_token TRAIT_KW 9 ∷
+    []) ∷ state false (by_token SAFE_KW 6 ∷ by_one ABI 7 ∷ by_token AUTO_KW 8 ∷ by_token TRAIT_KW 9 ∷ []) ∷
+    state false (by_one ABI 7 ∷ by_token AUTO_KW 8 ∷ by_token TRAIT_KW 9 ∷ []) ∷ state false (by_token AUTO_KW 8 ∷
+    by_token TRAIT_KW 9 ∷ []) ∷ state false (by_token TRAIT_KW 9 ∷ []) ∷ state false (by_one NAME 10 ∷ []) ∷
+    state false (by_one GENERIC_PARAM_LIST 11 ∷ by_token COLON 12 ∷ by_one WHERE_CLAUSE 13 ∷ by_one ASSOC_ITEM_LIST 14 ∷
+    by_token EQ 15 ∷ []) ∷ state false (by_token COLON 12 ∷ by_one WHERE_CLAUSE 13 ∷ by_one ASSOC_ITEM_LIST 14 ∷
+    by_token EQ 15 ∷ []) ∷ state false (by_one TYPE_BOUND_LIST 16 ∷ []) ∷ state false (by_one ASSOC_ITEM_LIST 14 ∷ []) ∷
+    state true [] ∷ state false (by_one TYPE_BOUND_LIST 17 ∷ []) ∷ state false (by_one WHERE_CLAUSE 13 ∷
+    by_one ASSOC_ITEM_LIST 14 ∷ []) ∷ state false (by_one WHERE_CLAUSE 18 ∷ by_token SEMICOLON 14 ∷ []) ∷
+    state false (by_token SEMICOLON 14 ∷ []) ∷ []
 
 abbrev pub impl_states : List State
 impl_states =
     state false (by_node attribute_kinds 0 ∷ by_one VISIBILITY 1 ∷ by_one IMPL_RESTRICTION 2 ∷ by_token CONST_KW 3 ∷
-    by_token ASYNC_KW 4 ∷ by_token GEN_KW 5 ∷ by_token UNSAFE_KW 6 ∷ by_token SAFE_KW 7 ∷ by_one ABI 8 ∷
-    by_token AUTO_KW 9 ∷ by_token DEFAULT_KW 10 ∷ by_token IMPL_KW 11 ∷ []) ∷ state false (by_one IMPL_RESTRICTION 2 ∷
-    by_token CONST_KW 3 ∷ by_token ASYNC_KW 4 ∷ by_token GEN_KW 5 ∷ by_token UNSAFE_KW 6 ∷ by_token SAFE_KW 7 ∷
-    by_one ABI 8 ∷ by_token AUTO_KW 9 ∷ by_token DEFAULT_KW 10 ∷ by_token IMPL_KW 11 ∷ []) ∷
-    state false (by_token CONST_KW 3 ∷ by_token ASYNC_KW 4 ∷ by_token GEN_KW 5 ∷ by_token UNSAFE_KW 6 ∷
-    by_token SAFE_KW 7 ∷ by_one ABI 8 ∷ by_token AUTO_KW 9 ∷ by_token DEFAULT_KW 10 ∷ by_token IMPL_KW 11 ∷ []) ∷
-    state false (by_token ASYNC_KW 4 ∷ by_token GEN_KW 5 ∷ by_token UNSAFE_KW 6 ∷ by_token SAFE_KW 7 ∷ by_one ABI 8 ∷
-    by_token AUTO_KW 9 ∷ by_token DEFAULT_KW 10 ∷ by_token IMPL_KW 11 ∷ []) ∷ state false (by_token GEN_KW 5 ∷
-    by_token UNSAFE_KW 6 ∷ by_token SAFE_KW 7 ∷ by_one ABI 8 ∷ by_token AUTO_KW 9 ∷ by_token DEFAULT_KW 10 ∷
-    by_token IMPL_KW 11 ∷ []) ∷ state false (by_token UNSAFE_KW 6 ∷ by_token SAFE_KW 7 ∷ by_one ABI 8 ∷
-    by_token AUTO_KW 9 ∷ by_token DEFAULT_KW 10 ∷ by_token IMPL_KW 11 ∷ []) ∷ state false (by_token SAFE_KW 7 ∷
-    by_one ABI 8 ∷ by_token AUTO_KW 9 ∷ by_token DEFAULT_KW 10 ∷ by_token IMPL_KW 11 ∷ []) ∷ state false (by_one ABI 8 ∷
-    by_token AUTO_KW 9 ∷ by_token DEFAULT_KW 10 ∷ by_token IMPL_KW 11 ∷ []) ∷ state false (by_token AUTO_KW 9 ∷
-    by_token DEFAULT_KW 10 ∷ by_token IMPL_KW 11 ∷ []) ∷ state false (by_token DEFAULT_KW 10 ∷ by_token IMPL_KW 11 ∷ [])
-    ∷ state false (by_token ASYNC_KW 12 ∷ by_token UNSAFE_KW 13 ∷ by_token IMPL_KW 11 ∷ []) ∷
-    state false (by_one GENERIC_PARAM_LIST 14 ∷ by_token CONST_KW 15 ∷ by_token BANG 16 ∷ by_node types 17 ∷ []) ∷
-    state false (by_token UNSAFE_KW 13 ∷ by_token IMPL_KW 11 ∷ []) ∷ state false (by_token IMPL_KW 11 ∷ []) ∷
-    state false (by_token CONST_KW 15 ∷ by_token BANG 16 ∷ by_node types 17 ∷ []) ∷ state false (by_token BANG 16 ∷
-    by_node types 17 ∷ []) ∷ state false (by_node types 17 ∷ []) ∷ state false (by_token FOR_KW 18 ∷
-    by_one WHERE_CLAUSE 19 ∷ by_one ASSOC_ITEM_LIST 20 ∷ []) ∷ state false (by_node types 21 ∷ []) ∷
-    state false (by_one ASSOC_ITEM_LIST 20 ∷ []) ∷ state true [] ∷ state false (by_one WHERE_CLAUSE 19 ∷
-    by_one ASSOC_ITEM_LIST 20 ∷ []) ∷ []
+    by_token ASYNC_KW 4 ∷ by_token UNSAFE_KW 5 ∷ by_token SAFE_KW 6 ∷ by_one ABI 7 ∷ by_token DEFAULT_KW 8 ∷
+    by_token IMPL_KW 9 ∷ []) ∷ state false (by_one IMPL_RESTRICTION 2 ∷ by_token CONST_KW 3 ∷ by_token ASYNC_KW 4 ∷
+    by_token UNSAFE_KW 5 ∷ by_token SAFE_KW 6 ∷ by_one ABI 7 ∷ by_token DEFAULT_KW 8 ∷ by_token IMPL_KW 9 ∷ []) ∷
+    state false (by_token CONST_KW 3 ∷ by_token ASYNC_KW 4 ∷ by_token UNSAFE_KW 5 ∷ by_token SAFE_KW 6 ∷ by_one ABI 7 ∷
+    by_token DEFAULT_KW 8 ∷ by_token IMPL_KW 9 ∷ []) ∷ state false (by_token ASYNC_KW 4 ∷ by_token UNSAFE_KW 5 ∷
+    by_token SAFE_KW 6 ∷ by_one ABI 7 ∷ by_token DEFAULT_KW 8 ∷ by_token IMPL_KW 9 ∷ []) ∷
+    state false (by_token UNSAFE_KW 5 ∷ by_token SAFE_KW 6 ∷ by_one ABI 7 ∷ by_token DEFAULT_KW 8 ∷ by_token IMPL_KW 9 ∷
+    []) ∷ state false (by_token SAFE_KW 6 ∷ by_one ABI 7 ∷ by_token DEFAULT_KW 8 ∷ by_token IMPL_KW 9 ∷ []) ∷
+    state false (by_one ABI 7 ∷ by_token DEFAULT_KW 8 ∷ by_token IMPL_KW 9 ∷ []) ∷ state false (by_token DEFAULT_KW 8 ∷
+    by_token IMPL_KW 9 ∷ []) ∷ state false (by_token UNSAFE_KW 10 ∷ by_token IMPL_KW 9 ∷ []) ∷
+    state false (by_one GENERIC_PARAM_LIST 11 ∷ by_token CONST_KW 12 ∷ by_token BANG 13 ∷ by_node types 14 ∷ []) ∷
+    state false (by_token IMPL_KW 9 ∷ []) ∷ state false (by_token CONST_KW 12 ∷ by_token BANG 13 ∷ by_node types 14 ∷
+    []) ∷ state false (by_token BANG 13 ∷ by_node types 14 ∷ []) ∷ state false (by_node types 14 ∷ []) ∷
+    state false (by_token FOR_KW 15 ∷ by_one WHERE_CLAUSE 16 ∷ by_one ASSOC_ITEM_LIST 17 ∷ []) ∷
+    state false (by_node types 18 ∷ []) ∷ state false (by_one ASSOC_ITEM_LIST 17 ∷ []) ∷ state true [] ∷
+    state false (by_one WHERE_CLAUSE 16 ∷ by_one ASSOC_ITEM_LIST 17 ∷ []) ∷ []
 
 abbrev pub assoc_item_list_states : List State
 assoc_item_list_states =
@@ -340,9 +299,8 @@ param_list_states =
     state false (by_token L_PAREN 1 ∷ by_token PIPE 2 ∷ []) ∷ state false (by_node attribute_kinds 3 ∷
     by_one SELF_PARAM 4 ∷ by_one PARAM 5 ∷ by_token R_PAREN 6 ∷ []) ∷ state false (by_one PARAM 7 ∷ by_token PIPE 6 ∷
     []) ∷ state false (by_node attribute_kinds 3 ∷ by_token R_PAREN 6 ∷ []) ∷ state false (by_token COMMA 8 ∷
-    by_one PARAM 5 ∷ by_token R_PAREN 6 ∷ []) ∷ state false (by_token COMMA 8 ∷ by_token R_PAREN 6 ∷ []) ∷ state true []
-    ∷ state false (by_token COMMA 2 ∷ by_token PIPE 6 ∷ []) ∷ state false (by_one PARAM 5 ∷ by_token R_PAREN 6 ∷ []) ∷
-    []
+    by_token R_PAREN 6 ∷ []) ∷ state false (by_token COMMA 8 ∷ by_token R_PAREN 6 ∷ []) ∷ state true [] ∷
+    state false (by_token COMMA 2 ∷ by_token PIPE 6 ∷ []) ∷ state false (by_one PARAM 5 ∷ by_token R_PAREN 6 ∷ []) ∷ []
 
 abbrev pub param_states : List State
 param_states =

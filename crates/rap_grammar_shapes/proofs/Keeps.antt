@@ -11,17 +11,16 @@ use Rattle.rap_grammar_scripts.specs.Tally.{same_flag, same_outcome}
 use Rattle.rap_grammar_scripts.specs.declared.rule.Rule.{Rule}
 use Rattle.rap_grammar_scripts.proofs.Forests.{⧺-assoc}
 use Rattle.rap_grammar_scripts.proofs.Tally.{same_is}
-use Rattle.rap_grammar_table.specs.Shapes.{Child, children_of}
+use Rattle.rap_grammar_table.specs.Shapes.{Child}
 use Rattle.rap_grammar_table.proofs.Known.{nothing_known}
-use Rattle.rap_grammar_table.proofs.Shaped.{all_so-⧺}
-use Rattle.rap_grammar_table.proofs.Spells.{children-⧺}
 use Rattle.rap_grammar_shapes.proofs.Ahead.{Ahead, Comes, equal_ahead, learned, by_ahead, next_leaf}
 use Rattle.rap_grammar_shapes.proofs.AheadLaws.{equal_ahead_so, Goes, this_going, later_going, learned_so, comes_drop, next_leaf_so, ahead_same}
-use Rattle.rap_grammar_shapes.proofs.Claims.{brings, looks}
-use Rattle.rap_grammar_shapes.proofs.Content.{Content, nothing, leaf_of, any_leaf, node_of, a_float, spoilt, ◌⋅◌, ◌or◌, any_of, Holds, no_child, no_more, one_more, choose, equal, either_of, onto, many}
+use Rattle.rap_grammar_shapes.proofs.Claims.{brings}
+use Rattle.rap_grammar_shapes.proofs.Content.{Content, nothing, leaf_of, any_leaf, node_of, a_float, spoilt, owed, ◌⋅◌, ◌or◌, any_of, Holds, no_child, no_more, one_more, choose, equal, either_of, onto, many}
 use Rattle.rap_grammar_shapes.proofs.ContentLaws.{by_choice, by_chosen, by_either, equal_so, holds_first, holds_second, holds_onto, holds_many}
-use Rattle.rap_grammar_shapes.proofs.Ends.{Contents, astray, contents, by_kinds, by_content, by_newest, by_contents, equal_older, equal_contents, with_more, opened, closed, with_last, drawn, parted, given_up, either, Ends, same_end, put, pool, gather, on_ways, rule_ends, again_by, agains, last_by, dones, Turn, Start, begin_at, equal_start, next_at, turn_at, Row, any_one, reached, starts_in, is_seen, explored, is_reached, ordered, arriving, staying, leaving, solved, rows_from, has_content, goes_to, lands, end_lands, all_land, each_lands, are_all, behind, lasts, row_lasts, equal_ends, by_ends, turn_from, any_flags, rounds, by_rows, ends}
-use Rattle.rap_grammar_shapes.proofs.Trees.{Claimed, Part, Is, is_leaf, is_any, is_reported, is_skipped, is_opened, is_closed, is_given_up, is_behind, is_preceded, is_drawn, is_parted, equal_older_so, is_left, is_right}
+use Rattle.rap_grammar_shapes.proofs.Ends.{Contents, astray, contents, by_kinds, by_content, by_newest, by_contents, equal_older, equal_contents, with_more, opened, closed, with_last, drawn, parted, given_up, either, Ends, same_end, put, pool, by_ends, gather, on_ways, behind, all_alone, behind_each, alone_or, rule_ends, again_by, agains, last_by, dones, Turn, Start, begin_at, equal_start, next_if, is_kept, next_at, turn_at, Row, any_one, reached, starts_in, is_seen, explored, is_reached, ordered, arriving, staying, leaving, row_of, solved, rows_from, has_content, goes_to, lands, end_lands, all_land, each_lands, are_all, lasts, row_lasts, equal_ends, turn_from, any_flags, rounds, by_rows, ends}
+use Rattle.rap_grammar_shapes.proofs.Letters.{letters, letters-⧺, good-⧺}
+use Rattle.rap_grammar_shapes.proofs.Trees.{Part, Is, is_leaf, is_any, is_reported, is_skipped, is_opened, is_closed, is_given_up, is_behind, is_preceded, is_drawn, is_parted, equal_older_so, is_left, is_right}
 
 -- What is computed of contents that are computed first is the same.
 kinds_same : {A : Type 0} (ks : List ℕ) (h : List ℕ → A) → by_kinds ks h ≡ h ks
@@ -35,6 +34,7 @@ content_same any_leaf h = refl
 content_same (node_of ks) h = kinds_same ks (λ x. h (node_of x))
 content_same a_float h = refl
 content_same spoilt h = refl
+content_same owed h = refl
 content_same (a ⋅ b) h =
     content_same a (λ x. by_content b (λ y. h (x ⋅ y))) ∙ content_same b (λ y. h (a ⋅ y))
 content_same (a or b) h =
@@ -49,6 +49,12 @@ contents_same : {A : Type 0} (x : Contents) (h : Contents → A) → by_contents
 contents_same astray h = refl
 contents_same (contents a os) h =
     content_same a (λ x. by_newest os (λ xs. h (contents x xs))) ∙ newest_same os (λ xs. h (contents a xs))
+
+ends_same : {A : Type 0} (k : Ends) (h : Ends → A) → by_ends k h ≡ h k
+ends_same [] h = refl
+ends_same (e ∷ k) h =
+    ahead_same e.1 (λ l. by_contents e.2 (λ x. by_ends k (λ j. h ((e.0, l, x) ∷ j)))) ∙
+    (contents_same e.2 (λ x. by_ends k (λ j. h ((e.0, e.1, x) ∷ j))) ∙ ends_same k (λ j. h (e ∷ j)))
 
 -- An outcome with what comes next and what stands there.
 pub data Among (base : Forest) (stack : List Forest) : Ends → Outcome → Spot → Type 0 where
@@ -176,7 +182,7 @@ part_wider a b r q w h = record {
   new = h.new;
   forest = h.forest;
   below = h.below;
-  holds = w (children_of h.new) h.holds;
+  holds = w (letters h.new) h.holds;
   so = h.so;
 }
 
@@ -189,13 +195,13 @@ parts a b c o p q f h i = record {
   forest = i.forest ∙ ap (λ (x : Forest). x ⧺ i.new) h.forest ∙ ⧺-assoc o.forest h.new i.new;
   below = i.below ∙ h.below;
   holds =
-      subst (λ (cs : List Child). Holds c cs) (sym (children-⧺ h.new i.new))
-      (f (children_of h.new) (children_of i.new) h.holds i.holds);
-  so = all_so-⧺ Claimed h.new i.new h.so i.so;
+      subst (λ (cs : List Child). Holds c cs) (sym (letters-⧺ h.new i.new))
+      (f (letters h.new) (letters i.new) h.holds i.holds);
+  so = good-⧺ h.new i.new h.so i.so;
 }
 
 no_part : (a : Content) (p : Spot) → Holds a [] → Part p.forest p.below a p.forest p.below
-no_part a p h = record { new = none; forest = refl; below = refl; holds = h; so = tt }
+no_part a p h = record { new = none; forest = refl; below = refl; holds = h; so = record { nodes = tt; plain = refl } }
 
 -- one of some contents
 one_of_so : (a : Content) (bs : List Content) (cs : List Child) → has_content a bs ≡ true → Holds a cs →
@@ -215,6 +221,20 @@ is_last : (base : Forest) (stack : List Forest) (x y : Contents) (r q : Spot) �
 is_last base stack x astray r q h i = tt
 is_last base stack x (contents a []) r q h i = is_behind base stack a x r q h i
 is_last base stack x (contents a (b ∷ os)) r q h i = tt
+
+-- What was computed from nothing on is so behind what stands there.
+each_behind : (base : Forest) (stack : List Forest) (k : Ends) (v : Outcome) (x : Contents) (r q : Spot) →
+    Is base stack x r → Among r.forest r.below k v q → Among base stack (behind_each x k) v q
+each_behind base stack [] v x r q h a = elim a [ ]
+each_behind base stack (e ∷ k) v x r q h (this_one i s c) = this_one i s (is_last base stack x e.2 r q h c)
+each_behind base stack (e ∷ k) v x r q h (later_one a) = later_one (each_behind base stack k v x r q h a)
+
+alone_so : (base : Forest) (stack : List Forest) (k last : Ends) (v : Outcome) (x : Contents) (r q : Spot) →
+    Is base stack x r → Among r.forest r.below k v q → Among base stack last v q →
+    Among base stack (alone_or x k last) v q
+alone_so base stack k last v x r q h a b =
+    by_choice (λ (j : Ends). Among base stack j v q) (all_alone k) (behind_each x k) last
+    (λ e. each_behind base stack k v x r q h a) (λ e. b)
 
 last_new : (base : Forest) (stack : List Forest) (w v : Outcome) (l : Ahead) (y : Contents) (k : Ends) (q : Spot) →
     v ≡ w → goes_on v ≡ false → Comes l q.rest → Is base stack y q → Among base stack (last_by w l y k) v q
@@ -285,13 +305,13 @@ of_flags base stack f false false v q a =
 
 -- what stands there at the beginning
 pub nothing_yet : (p : Spot) → Is p.forest p.below (contents nothing []) p
-nothing_yet p = record { new = none; forest = refl; below = refl; holds = no_child; so = tt }
+nothing_yet p = record { new = none; forest = refl; below = refl; holds = no_child; so = record { nodes = tt; plain = refl } }
 
 -- What is computed of a script is so of its run between two spots, whatever comes next and stands at the first.
 abbrev pub RunSo : Script Rule → Spot → Spot → Outcome → Type 0
 RunSo s p q v =
-    (deep : Bool) (l : Ahead) (x : Contents) → Comes l p.rest → (base : Forest) (stack : List Forest) → Is base stack x p →
-    Among base stack (ends deep s l x) v q
+    (l : Ahead) (x : Contents) → Comes l p.rest → (base : Forest) (stack : List Forest) → Is base stack x p →
+    Among base stack (ends s l x) v q
 
 -- This is so of each turn of a loop.
 pub data TurnsSo (h : Bool → Bool → Script Rule) : Bool → Bool → Spot → Spot → Outcome → Type 0 where
@@ -299,8 +319,8 @@ pub data TurnsSo (h : Bool → Bool → Script Rule) : Bool → Bool → Spot �
       TurnsSo h a b p q v
   last_turn : {a b : Bool} {p q : Spot} {v : Outcome} → RunSo (h a b) p q v → goes_on v ≡ false → TurnsSo h a b p q v
 
-abbrev pub turn_of : Bool → (Bool → Bool → Script Rule) → Turn
-turn_of deep h a b l x = ends deep (h a b) l x
+abbrev pub turn_of : (Bool → Bool → Script Rule) → Turn
+turn_of h a b l x = ends (h a b) l x
 
 -- each element of a list
 abbrev Each : {A : Type 0} → (A → Type 0) → List A → Type 0
@@ -326,12 +346,13 @@ explored_so : (n : ℕ) (f : Bool) (g : Start → Ends) (seen : List (Start × E
 explored_so zero f g seen todo h = h
 explored_so (suc n) f g seen [] h = h
 explored_so (suc n) f g seen (s ∷ todo) h =
+    let on : Ends → List (Start × Ends) = λ k. explored n f g (seen ++ (s, k) ∷ []) (todo ++ starts_in f k) in
     by_choice (λ (ws : List (Start × Ends)). Each (λ w. w.1 ≡ g w.0) ws) (is_seen s seen) (explored n f g seen todo)
-    (explored n f g (seen ++ (s, g s) ∷ []) (todo ++ starts_in f (g s)))
-    (λ e. explored_so n f g seen todo h)
+    (by_ends (g s) on) (λ e. explored_so n f g seen todo h)
     (λ e.
-    explored_so n f g (seen ++ (s, g s) ∷ []) (todo ++ starts_in f (g s))
-    (each-++ (λ w. w.1 ≡ g w.0) seen ((s, g s) ∷ []) h (refl, tt)))
+    subst (λ (ws : List (Start × Ends)). Each (λ w. w.1 ≡ g w.0) ws) (sym (ends_same (g s) on))
+    (explored_so n f g (seen ++ (s, g s) ∷ []) (todo ++ starts_in f (g s))
+    (each-++ (λ w. w.1 ≡ g w.0) seen ((s, g s) ∷ []) h (refl, tt))))
 
 ordered_so : (n : ℕ) (f : Bool) (g : Start → Ends) (ws : List (Start × Ends)) → Each (λ w. w.1 ≡ g w.0) ws →
     Each (λ w. w.1 ≡ g w.0) (ordered n f ws)
@@ -347,8 +368,13 @@ solved_so : (f : Bool) (g : Start → Ends) (ts : List (Start × Ends)) (ws : Li
     Each (λ w. w.1 ≡ g w.0) ts → Each (λ r. r.turn ≡ g r.start) (solved f ts ws)
 solved_so f g [] ws h = tt
 solved_so f g (t ∷ ts) ws h =
-    let r : Row = record { start = t.0; turn = t.1; arrives = arriving t.0 ws; stays = staying f t.0 t.1 } in
-    (h.0, solved_so f g ts (leaving f t.0 (reached r) t.1 ++ ws) h.1)
+    let arrive = arriving t.0 ws in
+    let stay = staying f t.0 t.1 in
+    let on : List Content → List Content → List Row =
+    λ xs ys. row_of t xs ys ∷ solved f ts (leaving f t.0 (reached (row_of t xs ys)) t.1 ++ ws) in
+    subst (λ (rs : List Row). Each (λ r. r.turn ≡ g r.start) rs)
+    (sym (newest_same arrive (λ xs. by_newest stay (λ ys. on xs ys)) ∙ newest_same stay (λ ys. on arrive ys)))
+    (h.0, solved_so f g ts (leaving f t.0 (reached (row_of t arrive stay)) t.1 ++ ws) h.1)
 
 rows_so : (f : Bool) (g : Start → Ends) (s : Start) → Each (λ r. r.turn ≡ g r.start) (rows_from f g s)
 rows_so f g s =
@@ -465,12 +491,12 @@ abbrev AtEnd : List Row → Spot → Spot → Outcome → Type 0
 AtEnd rows o q (again c d) = At rows o q c d
 AtEnd rows o q w = Unit {0}
 
-next_comes : (f c d : Bool) (l : Ahead) (rs : List Record) → Comes l rs → Comes (next_at f c d l).next rs
+next_comes : (f c d : Bool) (l : Ahead) (rs : List Record) → Comes l rs → Comes (next_if f c d l).next rs
 next_comes true c d l rs s = s
 next_comes false c d l rs s = nothing_known rs
 
 at_next : (f : Bool) (rows : List Row) (o q : Spot) (c d : Bool) (l : Ahead) →
-    At rows o q (next_at f c d l).first (next_at f c d l).second → At rows o q c d
+    At rows o q (next_if f c d l).first (next_if f c d l).second → At rows o q c d
 at_next true rows o q c d l m = m
 at_next false rows o q c d l m = m
 
@@ -484,8 +510,8 @@ end_at f rows o p q a b c d m something l (contents x []) h e s i = absurd cc
 end_at f rows o p q a b c d m block l (contents x []) h e s i = absurd cc
 end_at f rows o p q a b c d m (again u v) l (contents x []) h e s i =
     subst (λ (w : Outcome). AtEnd rows o q w) (sym e)
-    (at_next f rows o q u v l
-    (turn_lands rows o p q a b m x (next_at f u v l) h (next_comes f u v l q.rest s) i))
+    (at_next (is_kept f x) rows o q u v l
+    (turn_lands rows o p q a b m x (next_at f u v l x) h (next_comes (is_kept f x) u v l q.rest s) i))
 
 ends_at : (f : Bool) (rows : List Row) (o p q : Spot) (a b c d : Bool) (m : At rows o p a b) (k : Ends) →
     all_land f rows m.row k ≡ true → Among p.forest p.below k (again c d) q → At rows o q c d
@@ -510,46 +536,46 @@ row_lasts_so base stack x r (y ∷ rows) v q (later_member m) a =
     (row_lasts_so base stack x r rows v q m a)
 
 -- what is computed of the turn from a row
-at_turn : (deep : Bool) (h : Bool → Bool → Script Rule) (rows : List Row) (o p q : Spot) (a b : Bool) (v : Outcome)
-    (m : At rows o p a b) → m.row.turn ≡ turn_at (turn_of deep h) m.row.start → RunSo (h a b) p q v →
+at_turn : (h : Bool → Bool → Script Rule) (rows : List Row) (o p q : Spot) (a b : Bool) (v : Outcome)
+    (m : At rows o p a b) → m.row.turn ≡ turn_at (turn_of h) m.row.start → RunSo (h a b) p q v →
     Among p.forest p.below m.row.turn v q
-at_turn deep h rows o p q a b v m e t =
+at_turn h rows o p q a b v m e t =
     subst (λ (k : Ends). Among p.forest p.below k v q) (sym e)
     (flags m.row.start.first m.row.start.second m.first m.second
-    (t deep m.row.start.next (contents nothing []) m.comes p.forest p.below (nothing_yet p)))
+    (t m.row.start.next (contents nothing []) m.comes p.forest p.below (nothing_yet p)))
   where
     flags : (c d : Bool) → c ≡ a → d ≡ b →
-        Among p.forest p.below (ends deep (h a b) m.row.start.next (contents nothing [])) v q →
-        Among p.forest p.below (ends deep (h c d) m.row.start.next (contents nothing [])) v q
+        Among p.forest p.below (ends (h a b) m.row.start.next (contents nothing [])) v q →
+        Among p.forest p.below (ends (h c d) m.row.start.next (contents nothing [])) v q
     flags c d e f x = rw (e, f) x
 
-turns_keep : (f : Bool) (deep : Bool) (h : Bool → Bool → Script Rule) (rows : List Row) →
-    Each (λ r. r.turn ≡ turn_at (turn_of deep h) r.start) rows → Each (λ r. all_land f rows r r.turn ≡ true) rows →
+turns_keep : (f : Bool) (h : Bool → Bool → Script Rule) (rows : List Row) →
+    Each (λ r. r.turn ≡ turn_at (turn_of h) r.start) rows → Each (λ r. all_land f rows r r.turn ≡ true) rows →
     (base : Forest) (stack : List Forest) (x : Contents) {a b : Bool} (o p q : Spot) (v : Outcome) →
     TurnsSo h a b p q v → Is base stack x o → At rows o p a b → Among base stack (row_lasts x rows) v q
-turns_keep f deep h rows e j base stack x o p q v (one_turn {a = a} {b = b} {c = c} {d = d} {r = r} t u) i m =
-    turns_keep f deep h rows e j base stack x o r q v u i
+turns_keep f h rows e j base stack x o p q v (one_turn {a = a} {b = b} {c = c} {d = d} {r = r} t u) i m =
+    turns_keep f h rows e j base stack x o r q v u i
     (ends_at f rows o p r a b c d m m.row.turn (each_at (λ r. all_land f rows r r.turn ≡ true) m.row rows j m.is)
-    (at_turn deep h rows o p r a b (again c d) m
-    (each_at (λ r. r.turn ≡ turn_at (turn_of deep h) r.start) m.row rows e m.is) t))
-turns_keep f deep h rows e j base stack x o p q v (last_turn {a = a} {b = b} t g) i m =
+    (at_turn h rows o p r a b (again c d) m
+    (each_at (λ r. r.turn ≡ turn_at (turn_of h) r.start) m.row rows e m.is) t))
+turns_keep f h rows e j base stack x o p q v (last_turn {a = a} {b = b} t g) i m =
     row_lasts_so base stack x m.row rows v q m.is
     (last_among base stack m.row.turn v (with_more (reached m.row) x) p q g
     (is_behind base stack (reached m.row) x o p i (at_reached rows o p a b m))
-    (at_turn deep h rows o p q a b v m (each_at (λ r. r.turn ≡ turn_at (turn_of deep h) r.start) m.row rows e m.is) t))
+    (at_turn h rows o p q a b v m (each_at (λ r. r.turn ≡ turn_at (turn_of h) r.start) m.row rows e m.is) t))
 
-by_rows_so : (f : Bool) (deep : Bool) (h : Bool → Bool → Script Rule) (base : Forest) (stack : List Forest) (x : Contents)
+by_rows_so : (f : Bool) (h : Bool → Bool → Script Rule) (base : Forest) (stack : List Forest) (x : Contents)
     {a b : Bool} (l : Ahead) (p q : Spot) (v : Outcome) (k : Ends) → TurnsSo h a b p q v → Comes l p.rest →
     Is base stack x p → Among base stack k v q →
-    Among base stack (by_rows f (turn_of deep h) (begin_at a b l) x k) v q
-by_rows_so f deep h base stack x {a = a} {b = b} l p q v k t s i last =
+    Among base stack (by_rows f (turn_of h) (begin_at a b l) x k) v q
+by_rows_so f h base stack x {a = a} {b = b} l p q v k t s i last =
     let start = begin_at a b l in
-    let rows = rows_from f (turn_at (turn_of deep h)) start in
+    let rows = rows_from f (turn_at (turn_of h)) start in
     by_choice (λ (j : Ends). Among base stack j v q) (are_all f start rows) (row_lasts x rows) k
     (λ e.
     by_chosen (goes_to nothing start rows) (each_lands f rows rows) e
     (λ g j.
-    turns_keep f deep h rows (rows_so f (turn_at (turn_of deep h)) start) (lands_each f rows rows j) base stack x p p q v t i
+    turns_keep f h rows (rows_so f (turn_at (turn_of h)) start) (lands_each f rows rows j) base stack x p p q v t i
     (at_row rows p p nothing start (goes_to_so nothing start rows g) s (no_part nothing p no_child))))
     (λ e. last)
 
@@ -578,63 +604,57 @@ equal_ends_so base stack (e ∷ j) (f ∷ k) v p h (later_one c) =
     (λ i n.
     by_chosen (equal_contents e.2 f.2) _ n (λ m o. later_one (equal_ends_so base stack j k v p o c)))
 
-ends_same : {A : Type 0} (k : Ends) (h : Ends → A) → by_ends k h ≡ h k
-ends_same [] h = refl
-ends_same (e ∷ k) h =
-    ahead_same e.1 (λ l. by_contents e.2 (λ x. by_ends k (λ j. h ((e.0, l, x) ∷ j)))) ∙
-    (contents_same e.2 (λ x. by_ends k (λ j. h ((e.0, e.1, x) ∷ j))) ∙ ends_same k (λ j. h (e ∷ j)))
-
-turn_goes : (deep : Bool) (h : Bool → Bool → Script Rule) (base : Forest) (stack : List Forest) (k : Ends) (a b : Bool) (p q : Spot)
+turn_goes : (h : Bool → Bool → Script Rule) (base : Forest) (stack : List Forest) (k : Ends) (a b : Bool) (p q : Spot)
     (v : Outcome) → RunSo (h a b) p q v → Among base stack k (again a b) p →
-    Among base stack (gather (turn_from (turn_of deep h)) k) v q
-turn_goes deep h base stack k a b p q v t i =
-    gathered base stack k (turn_from (turn_of deep h)) (again a b) v p q (λ l x s c. t deep l x s base stack c) i
+    Among base stack (gather (turn_from (turn_of h)) k) v q
+turn_goes h base stack k a b p q v t i =
+    gathered base stack k (turn_from (turn_of h)) (again a b) v p q (λ l x s c. t l x s base stack c) i
 
-rounds_keep : (deep : Bool) (h : Bool → Bool → Script Rule) (k : Ends) →
+rounds_keep : (h : Bool → Bool → Script Rule) (k : Ends) →
     ((base : Forest) (stack : List Forest) (c d : Bool) (q : Spot) →
-    Among base stack (gather (turn_from (turn_of deep h)) k) (again c d) q → Among base stack k (again c d) q) →
+    Among base stack (gather (turn_from (turn_of h)) k) (again c d) q → Among base stack k (again c d) q) →
     (base : Forest) (stack : List Forest) {a b : Bool} (p q : Spot) (v : Outcome) → TurnsSo h a b p q v →
-    Among base stack k (again a b) p → Among base stack (dones (gather (turn_from (turn_of deep h)) k)) v q
-rounds_keep deep h k s base stack p q v (one_turn {a = a} {b = b} {c = c} {d = d} {r = r} t u) i =
-    rounds_keep deep h k s base stack r q v u (s base stack c d r (turn_goes deep h base stack k a b p r (again c d) t i))
-rounds_keep deep h k s base stack p q v (last_turn {a = a} {b = b} t g) i =
-    done_so base stack (gather (turn_from (turn_of deep h)) k) v q g (turn_goes deep h base stack k a b p q v t i)
+    Among base stack k (again a b) p → Among base stack (dones (gather (turn_from (turn_of h)) k)) v q
+rounds_keep h k s base stack p q v (one_turn {a = a} {b = b} {c = c} {d = d} {r = r} t u) i =
+    rounds_keep h k s base stack r q v u (s base stack c d r (turn_goes h base stack k a b p r (again c d) t i))
+rounds_keep h k s base stack p q v (last_turn {a = a} {b = b} t g) i =
+    done_so base stack (gather (turn_from (turn_of h)) k) v q g (turn_goes h base stack k a b p q v t i)
 
-flags_keep : (deep : Bool) (h : Bool → Bool → Script Rule) (base : Forest) (stack : List Forest) {a b : Bool} (p q : Spot)
+flags_keep : (h : Bool → Bool → Script Rule) (base : Forest) (stack : List Forest) {a b : Bool} (p q : Spot)
     (v : Outcome) → TurnsSo h a b p q v →
-    Among base stack (dones (any_flags (λ c d. turn_of deep h c d [] astray))) v q
-flags_keep deep h base stack p q v (one_turn {r = r} t u) = flags_keep deep h base stack r q v u
-flags_keep deep h base stack p q v (last_turn {a = a} {b = b} t g) =
-    done_so base stack (any_flags (λ c d. turn_of deep h c d [] astray)) v q g
-    (of_flags base stack (λ c d. turn_of deep h c d [] astray) a b v q
-    (t deep [] astray (nothing_known p.rest) base stack tt))
+    Among base stack (dones (any_flags (λ c d. turn_of h c d [] astray))) v q
+flags_keep h base stack p q v (one_turn {r = r} t u) = flags_keep h base stack r q v u
+flags_keep h base stack p q v (last_turn {a = a} {b = b} t g) =
+    done_so base stack (any_flags (λ c d. turn_of h c d [] astray)) v q g
+    (of_flags base stack (λ c d. turn_of h c d [] astray) a b v q
+    (t [] astray (nothing_known p.rest) base stack tt))
 
-rounds_so : (n : ℕ) (deep : Bool) (h : Bool → Bool → Script Rule) (base : Forest) (stack : List Forest) (k : Ends) {a b : Bool}
+rounds_so : (n : ℕ) (h : Bool → Bool → Script Rule) (base : Forest) (stack : List Forest) (k : Ends) {a b : Bool}
     (p q : Spot) (v : Outcome) → TurnsSo h a b p q v → Among base stack k (again a b) p →
-    Among base stack (rounds n (turn_of deep h) k) v q
-rounds_so zero deep h base stack k p q v t i = flags_keep deep h base stack p q v t
-rounds_so (suc n) deep h base stack k {a = a} {b = b} p q v t i =
-    let g = gather (turn_from (turn_of deep h)) k in
+    Among base stack (rounds n (turn_of h) k) v q
+rounds_so zero h base stack k p q v t i = flags_keep h base stack p q v t
+rounds_so (suc n) h base stack k {a = a} {b = b} p q v t i =
+    let g = gather (turn_from (turn_of h)) k in
     let j = pool (agains g) k in
     subst (λ (l : Ends). Among base stack l v q)
-    (sym (ends_same j (λ m. choose (equal_ends m k) (dones g) (rounds n (turn_of deep h) m))))
-    (by_choice (λ (l : Ends). Among base stack l v q) (equal_ends j k) (dones g) (rounds n (turn_of deep h) j)
+    (sym (ends_same j (λ m. choose (equal_ends m k) (dones g) (rounds n (turn_of h) m))))
+    (by_choice (λ (l : Ends). Among base stack l v q) (equal_ends j k) (dones g) (rounds n (turn_of h) j)
     (λ e.
-    rounds_keep deep h k
+    rounds_keep h k
     (λ u s c d r f.
     equal_ends_so u s j k (again c d) r e
     (pool_left u s (agains g) k (again c d) r (again_so u s g c d r f)))
     base stack p q v t i)
-    (λ e. rounds_so n deep h base stack j p q v t (pool_right base stack (agains g) k (again a b) p i)))
+    (λ e. rounds_so n h base stack j p q v t (pool_right base stack (agains g) k (again a b) p i)))
 
 loop_so : (h : Bool → Bool → Script Rule) {a b : Bool} (p q : Spot) (v : Outcome) → TurnsSo h a b p q v →
     RunSo (loop h a b) p q v
-loop_so h {a = a} {b = b} p q v u deep l x s base stack i =
-    let g = turn_of deep h in
+loop_so h {a = a} {b = b} p q v u l x s base stack i =
+    let g = turn_of h in
     let last = rounds 4 g ((again a b, l, x) ∷ []) in
-    by_rows_so true deep h base stack x l p q v (by_rows false g (begin_at a b []) x last) u s i
-    (by_rows_so false deep h base stack x [] p q v last u (nothing_known p.rest) i
-    (rounds_so 4 deep h base stack ((again a b, l, x) ∷ []) p q v u (this_one refl s i)))
+    by_rows_so true h base stack x l p q v (by_rows false g (begin_at a b []) x last) u s i
+    (by_rows_so false h base stack x [] p q v last u (nothing_known p.rest) i
+    (rounds_so 4 h base stack ((again a b, l, x) ∷ []) p q v u (this_one refl s i)))
 
 -- What is shown of a run: of a loop, that it is so of each turn.
 abbrev pub RunKept : Script Rule → Spot → Spot → Outcome → Type 0
@@ -648,7 +668,7 @@ run_so s p q v k = k
 -- Each rule brings what is claimed of it, where its script ends as is computed.
 abbrev pub BringsSo : Type 0
 BringsSo =
-    (c : Rule) (p q : Spot) (v : Outcome) → Among p.forest p.below (ends (looks c) (script_of c) [] (contents nothing [])) v q →
+    (c : Rule) (p q : Spot) (v : Outcome) → Among p.forest p.below (ends (script_of c) [] (contents nothing [])) v q →
     Brought (brings c) v p q
 
 -- tokens that are left are of the input
@@ -683,107 +703,110 @@ tokens_left p q v (stops i g) t = tokens_left p q v i t
 
 kept : BringsSo → {s : Script Rule} (p q : Spot) (v : Outcome) → All IsTokenRecord p.rest → Runs script_of s p q v →
     RunKept s p q v
-kept o p q v t (gives {v = w}) = λ deep l x s base stack k. this_one refl s k
+kept o p q v t (gives {v = w}) = λ l x s base stack k. this_one refl s k
 kept o p q v t (passes {h = h} {s = a} {t = b} e r) =
-    λ deep l x s base stack k.
-    pool_left base stack (on_ways (λ m. ends deep a m x) (learned deep h true l)) (on_ways (λ m. ends deep b m x) (learned deep h false l))
+    λ l x s base stack k.
+    pool_left base stack (on_ways (λ m. ends a m x) (learned h true l)) (on_ways (λ m. ends b m x) (learned h false l))
     v q
-    (ways_go base stack (λ m. ends deep a m x) (learned deep h true l) v p q
-    (λ m u. run_so a p q v (kept o p q v t r) deep m x u base stack k) (learned_so deep h true l p.rest t s e))
+    (ways_go base stack (λ m. ends a m x) (learned h true l) v p q
+    (λ m u. run_so a p q v (kept o p q v t r) m x u base stack k) (learned_so h true l p.rest t s e))
 kept o p q v t (fails {h = h} {s = a} {t = b} e r) =
-    λ deep l x s base stack k.
-    pool_right base stack (on_ways (λ m. ends deep a m x) (learned deep h true l))
-    (on_ways (λ m. ends deep b m x) (learned deep h false l)) v q
-    (ways_go base stack (λ m. ends deep b m x) (learned deep h false l) v p q
-    (λ m u. run_so b p q v (kept o p q v t r) deep m x u base stack k) (learned_so deep h false l p.rest t s e))
+    λ l x s base stack k.
+    pool_right base stack (on_ways (λ m. ends a m x) (learned h true l))
+    (on_ways (λ m. ends b m x) (learned h false l)) v q
+    (ways_go base stack (λ m. ends b m x) (learned h false l) v p q
+    (λ m u. run_so b p q v (kept o p q v t r) m x u base stack k) (learned_so h false l p.rest t s e))
 kept o p q v t (ends_so {s = a} {t = b} e r) =
-    λ deep l x s base stack k.
-    pool_left base stack (ends deep a l x) (ends deep b l x) v q (run_so a p q v (kept o p q v t r) deep l x s base stack k)
+    λ l x s base stack k.
+    pool_left base stack (ends a l x) (ends b l x) v q (run_so a p q v (kept o p q v t r) l x s base stack k)
 kept o p q v t (ends_else {s = a} {t = b} e r) =
-    λ deep l x s base stack k.
-    pool_right base stack (ends deep a l x) (ends deep b l x) v q (run_so b p q v (kept o p q v t r) deep l x s base stack k)
+    λ l x s base stack k.
+    pool_right base stack (ends a l x) (ends b l x) v q (run_so b p q v (kept o p q v t r) l x s base stack k)
 kept o p q v t (takes {k = c} {s = a} e r) =
-    λ deep l x s base stack k.
-    by_both base stack (drop (width c) l) (with_more (leaf_of (c ∷ [])) x) (λ m y. ends deep a m y) v q
-    (run_so a (taken c (width c) p) q v (kept o (taken c (width c) p) q v (left (width c) p.rest t) r) deep
+    λ l x s base stack k.
+    by_both base stack (drop (width c) l) (with_more (leaf_of (c ∷ [])) x) (λ m y. ends a m y) v q
+    (run_so a (taken c (width c) p) q v (kept o (taken c (width c) p) q v (left (width c) p.rest t) r)
     (drop (width c) l) (with_more (leaf_of (c ∷ [])) x) (comes_drop (width c) l p.rest s) base stack
     (is_leaf base stack c (width c) x p (taken c (width c) p) refl refl k))
 kept o p q v t (takes_any {s = a} e r) =
     let n = next_kind p.rest in
-    λ deep l x s base stack k.
-    by_both base stack (drop 1 l) (with_more (next_leaf l) x) (λ m y. ends deep a m y) v q
-    (run_so a (taken n 1 p) q v (kept o (taken n 1 p) q v (left 1 p.rest t) r) deep (drop 1 l) (with_more (next_leaf l) x)
+    λ l x s base stack k.
+    by_both base stack (drop 1 l) (with_more (next_leaf l) x) (λ m y. ends a m y) v q
+    (run_so a (taken n 1 p) q v (kept o (taken n 1 p) q v (left 1 p.rest t) r) (drop 1 l) (with_more (next_leaf l) x)
     (comes_drop 1 l p.rest s) base stack
     (is_any base stack (next_leaf l) n 1 x p (taken n 1 p) refl refl (next_leaf_so l p.rest s) k))
 kept o p q v t (bears {k = c} {s = a} e r) =
-    λ deep l x s base stack k.
-    by_both base stack (drop 1 l) (with_more (leaf_of (c ∷ [])) x) (λ m y. ends deep a m y) v q
-    (run_so a (taken c 1 p) q v (kept o (taken c 1 p) q v (left 1 p.rest t) r) deep (drop 1 l)
+    λ l x s base stack k.
+    by_both base stack (drop 1 l) (with_more (leaf_of (c ∷ [])) x) (λ m y. ends a m y) v q
+    (run_so a (taken c 1 p) q v (kept o (taken c 1 p) q v (left 1 p.rest t) r) (drop 1 l)
     (with_more (leaf_of (c ∷ [])) x) (comes_drop 1 l p.rest s) base stack
     (is_leaf base stack c 1 x p (taken c 1 p) refl refl k))
 kept o p q v t (reports {bytes = m} {s = a} r) =
-    λ deep l x s base stack k.
-    by_same base stack (with_more spoilt x) (λ y. ends deep a l y) v q
-    (run_so a (reported m p) q v (kept o (reported m p) q v t r) deep l (with_more spoilt x) s base stack
+    λ l x s base stack k.
+    by_same base stack (with_more spoilt x) (λ y. ends a l y) v q
+    (run_so a (reported m p) q v (kept o (reported m p) q v t r) l (with_more spoilt x) s base stack
     (is_reported base stack m x p k))
 kept o p q v t (reports_next {bytes = m} {s = a} r) =
     let bytes = with_kind m (next_kind p.rest) in
-    λ deep l x s base stack k.
-    by_same base stack (with_more spoilt x) (λ y. ends deep a l y) v q
-    (run_so a (reported bytes p) q v (kept o (reported bytes p) q v t r) deep l (with_more spoilt x) s base stack
+    λ l x s base stack k.
+    by_same base stack (with_more spoilt x) (λ y. ends a l y) v q
+    (run_so a (reported bytes p) q v (kept o (reported bytes p) q v t r) l (with_more spoilt x) s base stack
     (is_reported base stack bytes x p k))
 kept o p q v t (skips {bytes = m} {s = a} r) =
-    λ deep l x s base stack k.
-    by_both base stack (drop 1 l) (with_more spoilt x) (λ n y. ends deep a n y) v q
-    (run_so a (skipped_over m p) q v (kept o (skipped_over m p) q v (left 1 p.rest t) r) deep (drop 1 l)
+    λ l x s base stack k.
+    by_both base stack (drop 1 l) (with_more spoilt x) (λ n y. ends a n y) v q
+    (run_so a (skipped_over m p) q v (kept o (skipped_over m p) q v (left 1 p.rest t) r) (drop 1 l)
     (with_more spoilt x) (comes_drop 1 l p.rest s) base stack (is_skipped base stack m x p k))
 kept o p q v t (starts {s = a} r) =
-    λ deep l x s base stack k.
-    by_same base stack (opened x) (λ y. ends deep a l y) v q
-    (run_so a (started p) q v (kept o (started p) q v t r) deep l (opened x) s base stack (is_opened base stack x p k))
+    λ l x s base stack k.
+    by_same base stack (opened x) (λ y. ends a l y) v q
+    (run_so a (started p) q v (kept o (started p) q v t r) l (opened x) s base stack (is_opened base stack x p k))
 kept o p q v t (precedes {s = a} r) =
-    λ deep l x s base stack k.
-    by_same base stack (with_last x) (λ y. ends deep a l y) v q
-    (run_so a (preceded p) q v (kept o (preceded p) q v t r) deep l (with_last x) s base stack
+    λ l x s base stack k.
+    by_same base stack (with_last x) (λ y. ends a l y) v q
+    (run_so a (preceded p) q v (kept o (preceded p) q v t r) l (with_last x) s base stack
     (is_preceded base stack x p k))
 kept o p q v t (finishes {k = c} {s = a} r) =
-    λ deep l x s base stack k.
-    by_same base stack (closed c x) (λ y. ends deep a l y) v q
-    (run_so a (finished c p) q v (kept o (finished c p) q v t r) deep l (closed c x) s base stack
+    λ l x s base stack k.
+    by_same base stack (closed c x) (λ y. ends a l y) v q
+    (run_so a (finished c p) q v (kept o (finished c p) q v t r) l (closed c x) s base stack
     (is_closed base stack c x p k))
 kept o p q v t (extends {s = a} r) =
-    λ deep l x s base stack k.
-    by_same base stack (drawn x) (λ y. ends deep a l y) v q
-    (run_so a (extended p) q v (kept o (extended p) q v t r) deep l (drawn x) s base stack (is_drawn base stack x p k))
+    λ l x s base stack k.
+    by_same base stack (drawn x) (λ y. ends a l y) v q
+    (run_so a (extended p) q v (kept o (extended p) q v t r) l (drawn x) s base stack (is_drawn base stack x p k))
 kept o p q v t (abandons {s = a} r) =
-    λ deep l x s base stack k.
-    by_same base stack (given_up x) (λ y. ends deep a l y) v q
-    (run_so a (abandoned p) q v (kept o (abandoned p) q v t r) deep l (given_up x) s base stack
+    λ l x s base stack k.
+    by_same base stack (given_up x) (λ y. ends a l y) v q
+    (run_so a (abandoned p) q v (kept o (abandoned p) q v t r) l (given_up x) s base stack
     (is_given_up base stack x p k))
 kept o p q v t (splits_dotted {s = a} {t = b} e f r) =
-    λ deep l x s base stack k.
-    by_both base stack (drop 1 l) (parted x) (λ m y. pool (ends deep a m y) (ends deep b m y)) v q
-    (pool_left base stack (ends deep a (drop 1 l) (parted x)) (ends deep b (drop 1 l) (parted x)) v q
-    (run_so a (split_apart true p) q v (kept o (split_apart true p) q v (left 1 p.rest t) r) deep (drop 1 l) (parted x)
+    λ l x s base stack k.
+    by_both base stack (drop 1 l) (parted x) (λ m y. pool (ends a m y) (ends b m y)) v q
+    (pool_left base stack (ends a (drop 1 l) (parted x)) (ends b (drop 1 l) (parted x)) v q
+    (run_so a (split_apart true p) q v (kept o (split_apart true p) q v (left 1 p.rest t) r) (drop 1 l) (parted x)
     (comes_drop 1 l p.rest s) base stack (is_parted base stack true x p k)))
 kept o p q v t (splits_whole {s = a} {t = b} e f r) =
-    λ deep l x s base stack k.
-    by_both base stack (drop 1 l) (parted x) (λ m y. pool (ends deep a m y) (ends deep b m y)) v q
-    (pool_right base stack (ends deep a (drop 1 l) (parted x)) (ends deep b (drop 1 l) (parted x)) v q
-    (run_so b (split_apart false p) q v (kept o (split_apart false p) q v (left 1 p.rest t) r) deep (drop 1 l) (parted x)
+    λ l x s base stack k.
+    by_both base stack (drop 1 l) (parted x) (λ m y. pool (ends a m y) (ends b m y)) v q
+    (pool_right base stack (ends a (drop 1 l) (parted x)) (ends b (drop 1 l) (parted x)) v q
+    (run_so b (split_apart false p) q v (kept o (split_apart false p) q v (left 1 p.rest t) r) (drop 1 l) (parted x)
     (comes_drop 1 l p.rest s) base stack (is_parted base stack false x p k)))
 kept o p q v t (follows {s = a} {n = h} {r = r} {w = w} i j) =
-    λ deep l x s base stack k.
-    gathered base stack (ends deep a l x) (λ w m y. ends deep (h w) m y) w v r q
-    (λ m y u c. run_so (h w) r q v (kept o r q v (tokens_left p r w i t) j) deep m y u base stack c)
-    (run_so a p r w (kept o p r w t i) deep l x s base stack k)
+    λ l x s base stack k.
+    let run = run_so a p r w (kept o p r w t i) in
+    let alone = ends a l (contents nothing []) in
+    gathered base stack (alone_or x alone (ends a l x)) (λ w m y. ends (h w) m y) w v r q
+    (λ m y u c. run_so (h w) r q v (kept o r q v (tokens_left p r w i t) j) m y u base stack c)
+    (alone_so base stack alone (ends a l x) w x p r k
+    (run l (contents nothing []) s p.forest p.below (nothing_yet p)) (run l x s base stack k))
 kept o p q v t (obeys {c = c} {n = h} {r = r} {w = w} i j) =
-    λ deep l x s base stack k.
-    gathered base stack (rule_ends x (brings c)) (λ w m y. ends deep (h w) m y) w v r q
-    (λ m y u d. run_so (h w) r q v (kept o r q v (tokens_left p r w i t) j) deep m y u base stack d)
+    λ l x s base stack k.
+    gathered base stack (rule_ends x (brings c)) (λ w m y. ends (h w) m y) w v r q
+    (λ m y u d. run_so (h w) r q v (kept o r q v (tokens_left p r w i t) j) m y u base stack d)
     (rule_so base stack (brings c) x w p r k
     (o c p r w
-    (run_so (script_of c) p r w (kept o p r w t i) (looks c) [] (contents nothing []) (nothing_known p.rest) p.forest p.below
+    (run_so (script_of c) p r w (kept o p r w t i) [] (contents nothing []) (nothing_known p.rest) p.forest p.below
     (nothing_yet p))))
 kept o p q v t (turns {h = h} {a = a} {b = b} {c = c} {d = d} {r = r} i j) =
     one_turn (run_so (h a b) p r (again c d) (kept o p r (again c d) t i))

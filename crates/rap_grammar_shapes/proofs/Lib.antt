@@ -15,10 +15,12 @@ pub mod ItemModels
 pub mod ItemRules
 pub mod Keeps
 pub mod Known
+pub mod Letters
 pub mod Models
 pub mod Parts
 pub mod PatternRules
 pub mod Runs
+pub mod Same
 pub mod Small
 pub mod StmtRules
 pub mod Trees

@@ -3,8 +3,8 @@
 -- State 0 of each is its shape, and the others are what is left of it after some children.
 use Rattle.std.specs.Prelude.{ℕ, true, false, List, [], ◌∷◌, ◌==◌, if◌then◌else◌}
 use Rattle.rap_base.specs.NodeKind.{ABI, ARG_LIST, ARRAY_EXPR, ARRAY_TYPE, ASM_CLOBBER_ABI, ASM_CONST, ASM_DIR_SPEC, ASM_EXPR, ASM_LABEL, ASM_OPERAND_EXPR, ASM_OPERAND_NAMED, ASM_OPTION, ASM_OPTIONS, ASM_REG_OPERAND, ASM_REG_SPEC, ASM_SYM, ASSOC_ITEM_LIST, ASSOC_TYPE_ARG, ATTR, AWAIT_EXPR, BECOME_EXPR, BIN_EXPR, BLOCK_EXPR, BOX_PAT, BREAK_EXPR, CALL_EXPR, CAST_EXPR, CFG_ATOM, CFG_ATTR_META, CFG_COMPOSITE, CFG_META, CFG_PRED_EXPR, CFG_PRED_PAT, CLOSURE_EXPR, CONST, CONST_ARG, CONST_BLOCK_PAT, CONST_PARAM, CONTINUE_EXPR, DEREF_PAT, DOC_COMMENT, DYN_TRAIT_TYPE, ENUM, EXPR_STMT, EXTERN_BLOCK, EXTERN_CRATE, EXTERN_ITEM_LIST, FIELD_EXPR, FN, FN_PTR_TYPE, FORMAT_ARGS_ARG, FORMAT_ARGS_EXPR, FOR_BINDER, FOR_EXPR, FOR_TYPE, GENERIC_ARG_LIST, GENERIC_PARAM_LIST, IDENT_PAT, IF_EXPR, IMPL, IMPL_RESTRICTION, IMPL_TRAIT_TYPE, INCLUDE_BYTES_EXPR, INDEX_EXPR, INFER_TYPE, ITEM_LIST, KEY_VALUE_META, LABEL, LET_ELSE, LET_EXPR, LET_STMT, LIFETIME, LIFETIME_ARG, LIFETIME_PARAM, LITERAL, LITERAL_PAT, LOOP_EXPR, MACRO_CALL, MACRO_DEF, MACRO_EXPR, MACRO_ITEMS, MACRO_PAT, MACRO_RULES, MACRO_STMTS, MACRO_TYPE, MATCH_ARM, MATCH_ARM_LIST, MATCH_EXPR, MATCH_GUARD, METHOD_CALL_EXPR, MODULE, MUT_RESTRICTION, NAME, NAME_REF, NEVER_TYPE, NOT_NULL, OFFSET_OF_EXPR, OR_PAT, PARAM, PARAM_LIST, PARENTHESIZED_ARG_LIST, PAREN_EXPR, PAREN_PAT, PAREN_TYPE, PATH, PATH_EXPR, PATH_META, PATH_PAT, PATH_SEGMENT, PATH_TYPE, PATTERN_TYPE, PREFIX_EXPR, PTR_TYPE, RANGE_EXPR, RANGE_PAT, RECORD_EXPR, RECORD_EXPR_FIELD, RECORD_EXPR_FIELD_LIST, RECORD_FIELD, RECORD_FIELD_LIST, RECORD_PAT, RECORD_PAT_FIELD, RECORD_PAT_FIELD_LIST, REF_EXPR, REF_PAT, REF_TYPE, RENAME, REST_PAT, RETURN_EXPR, RETURN_TYPE_SYNTAX, RET_TYPE, SELF_PARAM, SLICE_PAT, SLICE_TYPE, SOURCE_FILE, STATIC, STMT_LIST, STRUCT, TOKEN_TREE, TOKEN_TREE_META, TRAIT, TRY_BLOCK_MODIFIER, TRY_EXPR, TUPLE_EXPR, TUPLE_FIELD, TUPLE_FIELD_LIST, TUPLE_PAT, TUPLE_STRUCT_PAT, TUPLE_TYPE, TYPE_ALIAS, TYPE_ANCHOR, TYPE_ARG, TYPE_BOUND, TYPE_BOUND_LIST, TYPE_PARAM, UNDERSCORE_EXPR, UNION, UNSAFE_META, USE, USE_BOUND_GENERIC_ARGS, USE_TREE, USE_TREE_LIST, VARIANT, VARIANT_LIST, VISIBILITY, VISIBILITY_INNER, WHERE_CLAUSE, WHERE_PRED, WHILE_EXPR, WILDCARD_PAT, YEET_EXPR, YIELD_EXPR}
-use Rattle.rap_base.specs.TokenKind.{AMP, ASM_KW, ASYNC_KW, AS_KW, AT, ATT_SYNTAX_KW, AWAIT_KW, BANG, BECOME_KW, BIKESHED_KW, BOX_KW, BREAK_KW, BUILTIN_KW, CFG_ATTR_KW, CFG_KW, CLOBBER_ABI_KW, COLON, COLON2, COMMA, CONST_KW, CONTINUE_KW, DEREF_KW, DOT, DOT2, DOT2EQ, DOT3, DO_KW, DYN_KW, ELSE_KW, EQ, ERROR, FAT_ARROW, FN_KW, FORMAT_ARGS_KW, FOR_KW, FRONTMATTER, GEN_KW, GLOBAL_ASM_KW, IDENT, IF_KW, IMPL_KW, INCLUDE_BYTES_KW, INLATEOUT_KW, INOUT_KW, IN_KW, IS_KW, LABEL_KW, LATEOUT_KW, LET_KW, LIFETIME_IDENT, LOOP_KW, L_ANGLE, L_BRACK, L_CURLY, L_PAREN, MATCH_KW, MAY_UNWIND_KW, MINUS, MOVE_KW, MUT_KW, NAKED_ASM_KW, NOMEM_KW, NORETURN_KW, NOSTACK_KW, OFFSET_OF_KW, OPTIONS_KW, OUT_KW, PATTERN_TYPE_KW, PIPE, PLUS, POUND, PRESERVES_FLAGS_KW, PURE_KW, QUESTION, RAW_KW, READONLY_KW, REF_KW, RETURN_KW, R_ANGLE, R_BRACK, R_CURLY, R_PAREN, SELF_KW, SEMICOLON, SHEBANG, STAR, STATIC_KW, STRING, SUPER_KW, SYM_KW, TILDE, TRY_KW, UNDERSCORE, UNSAFE_KW, USE_KW, WHERE_KW, WHILE_KW, YEET_KW, YIELD_KW}
-use Rattle.rap_grammar_shapes.proofs.Automata.{State, by_any, by_float, by_leaf, by_node, state}
+use Rattle.rap_base.specs.TokenKind.{AMP, ASM_KW, ASYNC_KW, AS_KW, AT, ATT_SYNTAX_KW, AWAIT_KW, BANG, BECOME_KW, BIKESHED_KW, BOX_KW, BREAK_KW, BUILTIN_KW, BYTE, BYTE_STRING, CFG_ATTR_KW, CFG_KW, CHAR, CLOBBER_ABI_KW, COLON, COLON2, COMMA, CONST_KW, CONTINUE_KW, CRATE_KW, C_STRING, DEREF_KW, DOT, DOT2, DOT2EQ, DOT3, DO_KW, DYN_KW, ELSE_KW, EQ, ERROR, FALSE_KW, FAT_ARROW, FLOAT_NUMBER, FN_KW, FORMAT_ARGS_KW, FOR_KW, FRONTMATTER, GEN_KW, GLOBAL_ASM_KW, IDENT, IF_KW, IMPL_KW, INCLUDE_BYTES_KW, INLATEOUT_KW, INNER_DOC_COMMENT, INOUT_KW, INT_NUMBER, IN_KW, IS_KW, LABEL_KW, LATEOUT_KW, LET_KW, LIFETIME_IDENT, LOOP_KW, L_ANGLE, L_BRACK, L_CURLY, L_PAREN, MATCH_KW, MAY_UNWIND_KW, MINUS, MOVE_KW, MUT_KW, NAKED_ASM_KW, NOMEM_KW, NORETURN_KW, NOSTACK_KW, OFFSET_OF_KW, OPTIONS_KW, OUTER_DOC_COMMENT, OUT_KW, PATTERN_TYPE_KW, PIPE, PLUS, POUND, PRESERVES_FLAGS_KW, PURE_KW, QUESTION, RAW_KW, READONLY_KW, REF_KW, RETURN_KW, R_ANGLE, R_BRACK, R_CURLY, R_PAREN, SELF_KW, SELF_TYPE_KW, SEMICOLON, SHEBANG, STAR, STATIC_KW, STRING, SUPER_KW, SYM_KW, TILDE, TRUE_KW, TRY_KW, UNDERSCORE, UNSAFE_KW, USE_KW, WHERE_KW, WHILE_KW, YEET_KW, YIELD_KW}
+use Rattle.rap_grammar_shapes.proofs.Automata.{State, by_leaf, by_node, state}
 use Rattle.rap_grammar_shapes.specs.Shapes.{attribute_kinds, expressions, generic_arguments, generic_parameters, items, metas, operands, operators, other_operands, patterns, predicates, range_ends, single_patterns, statement_nodes, types}
 use Rattle.rap_grammar_shapes.proofs.ItemModels.{by_token, by_one, visibility_states, visibility_inner_states, abi_states, ret_type_states, macro_call_states, module_states, item_list_states, extern_crate_states, extern_block_states, extern_item_list_states, impl_restriction_states, mut_restriction_states, type_alias_states, macro_rules_states, macro_def_states, fn_states, token_tree_states, struct_states, union_states, enum_states, variant_list_states, variant_states, record_field_list_states, record_field_states, tuple_field_list_states, tuple_field_states, const_states, static_states, trait_states, impl_states, assoc_item_list_states, use_states, use_tree_states, use_tree_list_states, param_list_states, param_states, self_param_states}
 
@@ -28,7 +28,9 @@ abbrev pub name_states : List State
 name_states = state false (by_leaf (IDENT ∷ SELF_KW ∷ []) 1 ∷ []) ∷ state true [] ∷ []
 
 abbrev pub name_ref_states : List State
-name_ref_states = state false (by_any 1 ∷ []) ∷ state true [] ∷ []
+name_ref_states =
+    state false (by_leaf (IDENT ∷ SELF_KW ∷ SUPER_KW ∷ CRATE_KW ∷ SELF_TYPE_KW ∷ INT_NUMBER ∷ []) 1 ∷ []) ∷
+    state true [] ∷ []
 
 abbrev pub lifetime_states : List State
 lifetime_states = state false (by_token LIFETIME_IDENT 1 ∷ []) ∷ state true [] ∷ []
@@ -89,9 +91,10 @@ stmt_list_states =
 
 abbrev pub block_expr_states : List State
 block_expr_states =
-    state false (by_node attribute_kinds 0 ∷ by_node (LABEL ∷ TRY_BLOCK_MODIFIER ∷ []) 1 ∷ by_any 2 ∷ by_one STMT_LIST 3
-    ∷ []) ∷ state false (by_one STMT_LIST 3 ∷ []) ∷ state false (by_token GEN_KW 4 ∷ by_token MOVE_KW 1 ∷
-    by_one STMT_LIST 3 ∷ []) ∷ state true [] ∷ state false (by_token MOVE_KW 1 ∷ by_one STMT_LIST 3 ∷ []) ∷ []
+    state false (by_node attribute_kinds 0 ∷ by_node (LABEL ∷ TRY_BLOCK_MODIFIER ∷ []) 1 ∷ by_leaf (CONST_KW ∷
+    UNSAFE_KW ∷ []) 1 ∷ by_token ASYNC_KW 2 ∷ by_token GEN_KW 3 ∷ by_one STMT_LIST 4 ∷ []) ∷
+    state false (by_one STMT_LIST 4 ∷ []) ∷ state false (by_token GEN_KW 3 ∷ by_token MOVE_KW 1 ∷ by_one STMT_LIST 4 ∷
+    []) ∷ state false (by_token MOVE_KW 1 ∷ by_one STMT_LIST 4 ∷ []) ∷ state true [] ∷ []
 
 abbrev pub label_states : List State
 label_states = state false (by_one LIFETIME 1 ∷ []) ∷ state false (by_token COLON 2 ∷ []) ∷ state true [] ∷ []
@@ -119,8 +122,9 @@ ref_expr_states =
 
 abbrev pub prefix_expr_states : List State
 prefix_expr_states =
-    state false (by_node attribute_kinds 0 ∷ by_token MINUS 1 ∷ by_any 2 ∷ []) ∷ state true (by_node expressions 3 ∷ [])
-    ∷ state false (by_node expressions 3 ∷ []) ∷ state true [] ∷ []
+    state false (by_node attribute_kinds 0 ∷ by_token MINUS 1 ∷ by_leaf (BANG ∷ STAR ∷ []) 2 ∷ []) ∷
+    state true (by_node expressions 3 ∷ []) ∷ state false (by_node expressions 4 ∷ []) ∷ state true [] ∷ state true [] ∷
+    []
 
 abbrev pub call_expr_states : List State
 call_expr_states =
@@ -142,8 +146,8 @@ method_call_expr_states =
 abbrev pub field_expr_states : List State
 field_expr_states =
     state false (by_node attribute_kinds 0 ∷ by_node other_operands 1 ∷ by_one FIELD_EXPR 2 ∷ []) ∷
-    state false (by_token DOT 3 ∷ []) ∷ state true (by_token DOT 3 ∷ by_one NAME_REF 4 ∷ by_float 4 ∷ []) ∷
-    state false (by_one NAME_REF 4 ∷ by_float 4 ∷ []) ∷ state true [] ∷ []
+    state false (by_token DOT 3 ∷ []) ∷ state false (by_token DOT 3 ∷ by_one NAME_REF 4 ∷ []) ∷
+    state false (by_one NAME_REF 4 ∷ []) ∷ state true [] ∷ []
 
 abbrev pub await_expr_states : List State
 await_expr_states =
@@ -179,10 +183,9 @@ record_expr_field_states =
 abbrev pub record_expr_field_list_states : List State
 record_expr_field_list_states =
     state false (by_token L_CURLY 1 ∷ []) ∷ state false (by_one RECORD_EXPR_FIELD 2 ∷ by_node attribute_kinds 3 ∷
-    by_token DOT2 4 ∷ by_token R_CURLY 5 ∷ []) ∷ state false (by_token COMMA 1 ∷ by_one RECORD_EXPR_FIELD 2 ∷
-    by_node attribute_kinds 3 ∷ by_token DOT2 4 ∷ by_token R_CURLY 5 ∷ []) ∷ state false (by_node attribute_kinds 3 ∷
-    by_token DOT2 4 ∷ []) ∷ state false (by_node expressions 2 ∷ by_token COMMA 1 ∷ by_one RECORD_EXPR_FIELD 2 ∷
-    by_node attribute_kinds 3 ∷ by_token DOT2 4 ∷ by_token R_CURLY 5 ∷ []) ∷ state true [] ∷ []
+    by_token DOT2 4 ∷ by_token R_CURLY 5 ∷ []) ∷ state false (by_token COMMA 1 ∷ by_token R_CURLY 5 ∷ []) ∷
+    state false (by_node attribute_kinds 3 ∷ by_token DOT2 4 ∷ []) ∷ state false (by_node expressions 2 ∷
+    by_token R_CURLY 5 ∷ []) ∷ state true [] ∷ []
 
 abbrev pub macro_expr_states : List State
 macro_expr_states = state false (by_node attribute_kinds 0 ∷ by_one MACRO_CALL 1 ∷ []) ∷ state true [] ∷ []
@@ -191,40 +194,43 @@ abbrev pub path_expr_states : List State
 path_expr_states = state false (by_node attribute_kinds 0 ∷ by_one PATH 1 ∷ []) ∷ state true [] ∷ []
 
 abbrev pub literal_states : List State
-literal_states = state false (by_node attribute_kinds 0 ∷ by_any 1 ∷ []) ∷ state true [] ∷ []
+literal_states =
+    state false (by_node attribute_kinds 0 ∷ by_leaf (INT_NUMBER ∷ FLOAT_NUMBER ∷ CHAR ∷ BYTE ∷ STRING ∷ BYTE_STRING ∷
+    C_STRING ∷ TRUE_KW ∷ FALSE_KW ∷ []) 1 ∷ []) ∷ state true [] ∷ []
 
 abbrev pub underscore_expr_states : List State
 underscore_expr_states = state false (by_node attribute_kinds 0 ∷ by_token UNDERSCORE 1 ∷ []) ∷ state true [] ∷ []
 
 abbrev pub paren_expr_states : List State
 paren_expr_states =
-    state false (by_node attribute_kinds 0 ∷ by_token L_PAREN 1 ∷ []) ∷ state false (by_node expressions 2 ∷
-    by_token R_PAREN 3 ∷ []) ∷ state false (by_token COMMA 1 ∷ by_node expressions 2 ∷ by_token R_PAREN 3 ∷ []) ∷
-    state true [] ∷ []
+    state false (by_node attribute_kinds 0 ∷ by_token L_PAREN 1 ∷ []) ∷ state false (by_node expressions 2 ∷ []) ∷
+    state false (by_token R_PAREN 3 ∷ []) ∷ state true [] ∷ []
 
 abbrev pub tuple_expr_states : List State
 tuple_expr_states =
     state false (by_node attribute_kinds 0 ∷ by_token L_PAREN 1 ∷ []) ∷ state false (by_node expressions 2 ∷
-    by_token R_PAREN 3 ∷ []) ∷ state false (by_token COMMA 1 ∷ by_node expressions 2 ∷ by_token R_PAREN 3 ∷ []) ∷
-    state true [] ∷ []
+    by_token R_PAREN 3 ∷ []) ∷ state false (by_token COMMA 4 ∷ []) ∷ state true [] ∷ state false (by_node expressions 5
+    ∷ by_token R_PAREN 3 ∷ []) ∷ state false (by_token COMMA 4 ∷ by_token R_PAREN 3 ∷ []) ∷ []
 
 abbrev pub array_expr_states : List State
 array_expr_states =
     state false (by_node attribute_kinds 0 ∷ by_token L_BRACK 1 ∷ []) ∷ state false (by_node expressions 2 ∷
-    by_token R_BRACK 3 ∷ []) ∷ state false (by_leaf (COMMA ∷ SEMICOLON ∷ []) 1 ∷ by_node expressions 2 ∷
-    by_token R_BRACK 3 ∷ []) ∷ state true [] ∷ []
+    by_token R_BRACK 3 ∷ []) ∷ state false (by_token COMMA 4 ∷ by_token SEMICOLON 5 ∷ by_token R_BRACK 3 ∷ []) ∷
+    state true [] ∷ state false (by_node expressions 6 ∷ by_token R_BRACK 3 ∷ []) ∷ state false (by_node expressions 7 ∷
+    by_token R_BRACK 3 ∷ []) ∷ state false (by_token COMMA 4 ∷ by_token R_BRACK 3 ∷ []) ∷
+    state false (by_token R_BRACK 3 ∷ []) ∷ []
 
 abbrev pub closure_expr_states : List State
 closure_expr_states =
     state false (by_node attribute_kinds 0 ∷ by_one FOR_BINDER 1 ∷ by_token CONST_KW 2 ∷ by_token STATIC_KW 3 ∷
-    by_token ASYNC_KW 4 ∷ by_token GEN_KW 5 ∷ by_token MOVE_KW 6 ∷ by_one PARAM_LIST 7 ∷ []) ∷
-    state false (by_token CONST_KW 2 ∷ by_token STATIC_KW 3 ∷ by_token ASYNC_KW 4 ∷ by_token GEN_KW 5 ∷
-    by_token MOVE_KW 6 ∷ by_one PARAM_LIST 7 ∷ []) ∷ state false (by_token STATIC_KW 3 ∷ by_token ASYNC_KW 4 ∷
-    by_token GEN_KW 5 ∷ by_token MOVE_KW 6 ∷ by_one PARAM_LIST 7 ∷ []) ∷ state false (by_token ASYNC_KW 4 ∷
-    by_token GEN_KW 5 ∷ by_token MOVE_KW 6 ∷ by_one PARAM_LIST 7 ∷ []) ∷ state false (by_token GEN_KW 5 ∷
-    by_token MOVE_KW 6 ∷ by_one PARAM_LIST 7 ∷ []) ∷ state false (by_token MOVE_KW 6 ∷ by_one PARAM_LIST 7 ∷ []) ∷
-    state false (by_one PARAM_LIST 7 ∷ []) ∷ state false (by_node expressions 8 ∷ by_one RET_TYPE 9 ∷ []) ∷
-    state true [] ∷ state false (by_one BLOCK_EXPR 8 ∷ []) ∷ []
+    by_token ASYNC_KW 4 ∷ by_token MOVE_KW 5 ∷ by_one PARAM_LIST 6 ∷ []) ∷ state false (by_token CONST_KW 2 ∷
+    by_token STATIC_KW 3 ∷ by_token ASYNC_KW 4 ∷ by_token GEN_KW 7 ∷ by_token MOVE_KW 5 ∷ by_one PARAM_LIST 6 ∷ []) ∷
+    state false (by_token STATIC_KW 3 ∷ by_token ASYNC_KW 4 ∷ by_token GEN_KW 7 ∷ by_token MOVE_KW 5 ∷
+    by_one PARAM_LIST 6 ∷ []) ∷ state false (by_token ASYNC_KW 4 ∷ by_token GEN_KW 7 ∷ by_token MOVE_KW 5 ∷
+    by_one PARAM_LIST 6 ∷ []) ∷ state false (by_token GEN_KW 7 ∷ by_token MOVE_KW 5 ∷ by_one PARAM_LIST 6 ∷ []) ∷
+    state false (by_one PARAM_LIST 6 ∷ []) ∷ state false (by_node expressions 8 ∷ by_one RET_TYPE 9 ∷ []) ∷
+    state false (by_token MOVE_KW 5 ∷ by_one PARAM_LIST 6 ∷ []) ∷ state true [] ∷ state false (by_one BLOCK_EXPR 8 ∷ [])
+    ∷ []
 
 abbrev pub if_expr_states : List State
 if_expr_states =
@@ -309,9 +315,8 @@ offset_of_expr_states =
     state false (by_token OFFSET_OF_KW 3 ∷ []) ∷ state false (by_token L_PAREN 4 ∷ []) ∷ state false (by_node types 5 ∷
     []) ∷ state false (by_token COMMA 6 ∷ []) ∷ state false (by_token L_PAREN 7 ∷ by_one NAME_REF 8 ∷ by_token R_PAREN 9
     ∷ []) ∷ state false (by_one NAME_REF 10 ∷ by_token R_PAREN 11 ∷ []) ∷ state false (by_token DOT 12 ∷
-    by_one NAME_REF 8 ∷ by_token R_PAREN 9 ∷ []) ∷ state true [] ∷ state false (by_token DOT 7 ∷ by_one NAME_REF 10 ∷
-    by_token R_PAREN 11 ∷ []) ∷ state false (by_token R_PAREN 9 ∷ []) ∷ state false (by_one NAME_REF 8 ∷
-    by_token R_PAREN 9 ∷ []) ∷ []
+    by_token R_PAREN 9 ∷ []) ∷ state true [] ∷ state false (by_token DOT 7 ∷ by_token R_PAREN 11 ∷ []) ∷
+    state false (by_token R_PAREN 9 ∷ []) ∷ state false (by_one NAME_REF 8 ∷ by_token R_PAREN 9 ∷ []) ∷ []
 
 abbrev pub format_args_expr_states : List State
 format_args_expr_states =
@@ -319,7 +324,7 @@ format_args_expr_states =
     state false (by_token FORMAT_ARGS_KW 3 ∷ []) ∷ state false (by_token L_PAREN 4 ∷ []) ∷
     state false (by_node expressions 5 ∷ []) ∷ state false (by_token COMMA 6 ∷ by_token R_PAREN 7 ∷ []) ∷
     state false (by_one FORMAT_ARGS_ARG 8 ∷ by_token R_PAREN 7 ∷ []) ∷ state true [] ∷ state false (by_token COMMA 6 ∷
-    by_one FORMAT_ARGS_ARG 8 ∷ by_token R_PAREN 7 ∷ []) ∷ []
+    by_token R_PAREN 7 ∷ []) ∷ []
 
 abbrev pub format_args_arg_states : List State
 format_args_arg_states =
@@ -430,7 +435,7 @@ cfg_pred_pat_states =
 
 abbrev pub literal_pat_states : List State
 literal_pat_states =
-    state true (by_token MINUS 1 ∷ by_one LITERAL 2 ∷ []) ∷ state true (by_one LITERAL 2 ∷ []) ∷ state true [] ∷ []
+    state false (by_token MINUS 1 ∷ by_one LITERAL 2 ∷ []) ∷ state false (by_one LITERAL 2 ∷ []) ∷ state true [] ∷ []
 
 abbrev pub tuple_struct_pat_states : List State
 tuple_struct_pat_states =
@@ -444,8 +449,7 @@ record_pat_states =
 abbrev pub record_pat_field_list_states : List State
 record_pat_field_list_states =
     state false (by_token L_CURLY 1 ∷ []) ∷ state false (by_node (RECORD_PAT_FIELD ∷ REST_PAT ∷ []) 2 ∷
-    by_token R_CURLY 3 ∷ []) ∷ state false (by_token COMMA 1 ∷ by_node (RECORD_PAT_FIELD ∷ REST_PAT ∷ []) 2 ∷
-    by_token R_CURLY 3 ∷ []) ∷ state true [] ∷ []
+    by_token R_CURLY 3 ∷ []) ∷ state false (by_token COMMA 1 ∷ by_token R_CURLY 3 ∷ []) ∷ state true [] ∷ []
 
 abbrev pub record_pat_field_states : List State
 record_pat_field_states =
@@ -471,13 +475,13 @@ not_null_states = state false (by_token BANG 1 ∷ []) ∷ state false (by_node 
 
 abbrev pub paren_pat_states : List State
 paren_pat_states =
-    state false (by_token L_PAREN 1 ∷ []) ∷ state false (by_node patterns 2 ∷ by_token R_PAREN 3 ∷ []) ∷
-    state false (by_token COMMA 1 ∷ by_node patterns 2 ∷ by_token R_PAREN 3 ∷ []) ∷ state true [] ∷ []
+    state false (by_token L_PAREN 1 ∷ []) ∷ state false (by_node patterns 2 ∷ []) ∷ state false (by_token R_PAREN 3 ∷
+    []) ∷ state true [] ∷ []
 
 abbrev pub tuple_pat_states : List State
 tuple_pat_states =
     state false (by_token L_PAREN 1 ∷ []) ∷ state false (by_node patterns 2 ∷ by_token R_PAREN 3 ∷ []) ∷
-    state false (by_token COMMA 1 ∷ by_node patterns 2 ∷ by_token R_PAREN 3 ∷ []) ∷ state true [] ∷ []
+    state false (by_token COMMA 1 ∷ by_token R_PAREN 3 ∷ []) ∷ state true [] ∷ []
 
 abbrev pub slice_pat_states : List State
 slice_pat_states =
@@ -500,21 +504,22 @@ const_block_pat_states =
 
 abbrev pub paren_type_states : List State
 paren_type_states =
-    state false (by_token L_PAREN 1 ∷ []) ∷ state false (by_node types 2 ∷ []) ∷ state false (by_token COMMA 1 ∷
-    by_token R_PAREN 3 ∷ []) ∷ state true [] ∷ []
+    state false (by_token L_PAREN 1 ∷ []) ∷ state false (by_node types 2 ∷ []) ∷ state false (by_token R_PAREN 3 ∷ []) ∷
+    state true [] ∷ []
 
 abbrev pub tuple_type_states : List State
 tuple_type_states =
     state false (by_token L_PAREN 1 ∷ []) ∷ state false (by_node types 2 ∷ by_token R_PAREN 3 ∷ []) ∷
-    state false (by_token COMMA 1 ∷ by_token R_PAREN 3 ∷ []) ∷ state true [] ∷ []
+    state false (by_token COMMA 4 ∷ []) ∷ state true [] ∷ state false (by_node types 5 ∷ by_token R_PAREN 3 ∷ []) ∷
+    state false (by_token COMMA 4 ∷ by_token R_PAREN 3 ∷ []) ∷ []
 
 abbrev pub never_type_states : List State
 never_type_states = state false (by_token BANG 1 ∷ []) ∷ state true [] ∷ []
 
 abbrev pub ptr_type_states : List State
 ptr_type_states =
-    state false (by_token STAR 1 ∷ []) ∷ state false (by_any 2 ∷ []) ∷ state false (by_node types 3 ∷ []) ∷
-    state true [] ∷ []
+    state false (by_token STAR 1 ∷ []) ∷ state false (by_leaf (CONST_KW ∷ MUT_KW ∷ []) 2 ∷ []) ∷
+    state false (by_node types 3 ∷ []) ∷ state true [] ∷ []
 
 abbrev pub slice_type_states : List State
 slice_type_states =
@@ -611,14 +616,15 @@ abbrev pub lifetime_arg_states : List State
 lifetime_arg_states = state false (by_one LIFETIME 1 ∷ []) ∷ state true [] ∷ []
 
 abbrev pub const_arg_states : List State
-const_arg_states = state true (by_node expressions 1 ∷ []) ∷ state true [] ∷ []
+const_arg_states = state false (by_node expressions 1 ∷ []) ∷ state true [] ∷ []
 
 abbrev pub assoc_type_arg_states : List State
 assoc_type_arg_states =
     state false (by_one NAME_REF 1 ∷ []) ∷ state false (by_node (GENERIC_ARG_LIST ∷ RETURN_TYPE_SYNTAX ∷ []) 2 ∷
-    by_one PARENTHESIZED_ARG_LIST 3 ∷ by_token COLON 4 ∷ by_any 5 ∷ []) ∷ state false (by_token COLON 4 ∷ by_any 5 ∷ [])
-    ∷ state false (by_one RET_TYPE 2 ∷ by_token COLON 4 ∷ by_any 5 ∷ []) ∷ state false (by_one TYPE_BOUND_LIST 6 ∷ []) ∷
-    state false (by_node types 6 ∷ by_one CONST_ARG 6 ∷ []) ∷ state true [] ∷ []
+    by_one PARENTHESIZED_ARG_LIST 3 ∷ by_token COLON 4 ∷ by_token EQ 5 ∷ []) ∷ state false (by_token COLON 4 ∷
+    by_token EQ 5 ∷ []) ∷ state false (by_one RET_TYPE 2 ∷ by_token COLON 4 ∷ by_token EQ 5 ∷ []) ∷
+    state false (by_one TYPE_BOUND_LIST 6 ∷ []) ∷ state false (by_node types 6 ∷ by_one CONST_ARG 6 ∷ []) ∷
+    state true [] ∷ []
 
 abbrev pub use_bound_generic_args_states : List State
 use_bound_generic_args_states =
@@ -658,7 +664,7 @@ where_pred_states =
     state false (by_node types 1 ∷ []) ∷ state false (by_one TYPE_BOUND_LIST 4 ∷ []) ∷ state true [] ∷ []
 
 abbrev pub doc_comment_states : List State
-doc_comment_states = state false (by_any 1 ∷ []) ∷ state true [] ∷ []
+doc_comment_states = state false (by_leaf (OUTER_DOC_COMMENT ∷ INNER_DOC_COMMENT ∷ []) 1 ∷ []) ∷ state true [] ∷ []
 
 abbrev pub attr_states : List State
 attr_states =
@@ -685,8 +691,8 @@ cfg_meta_states =
 
 abbrev pub cfg_atom_states : List State
 cfg_atom_states =
-    state false (by_token IDENT 1 ∷ by_any 2 ∷ []) ∷ state true (by_token EQ 3 ∷ []) ∷ state true [] ∷
-    state false (by_token STRING 2 ∷ []) ∷ []
+    state false (by_token IDENT 1 ∷ by_leaf (TRUE_KW ∷ FALSE_KW ∷ []) 2 ∷ []) ∷ state true (by_token EQ 3 ∷ []) ∷
+    state true [] ∷ state false (by_token STRING 2 ∷ []) ∷ []
 
 abbrev pub cfg_composite_states : List State
 cfg_composite_states =

@@ -7,8 +7,8 @@ use Rattle.rap_grammar_table.proofs.Known.{by_or, every_so, same_number}
 use Rattle.rap_grammar_table.proofs.Look.{same_self}
 use Rattle.rap_grammar_shapes.proofs.Automata.{Step, by_leaf, by_node, by_any, by_float, State, state_at, accepts, steps_of, step_leads, leads, Accepts, at_end, by_step}
 use Rattle.rap_grammar_shapes.specs.Whole.{are_sound, IsWhole}
-use Rattle.rap_grammar_shapes.proofs.Content.{Content, nothing, leaf_of, any_leaf, node_of, a_float, spoilt, ◌⋅◌, ◌or◌, any_of, Holds, no_child, a_leaf, some_leaf, a_node, the_float, not_whole, in_order, by_first, by_second, no_more, one_more, choose, equal_kinds, added, united}
-use Rattle.rap_grammar_shapes.proofs.ContentLaws.{equal_kinds_so, united_left, united_right, whole_left, whole_right}
+use Rattle.rap_grammar_shapes.proofs.Content.{Content, nothing, leaf_of, any_leaf, node_of, a_float, spoilt, owed, ◌⋅◌, ◌or◌, any_of, Holds, no_child, a_leaf, some_leaf, a_node, the_float, is_told, not_whole, in_order, by_first, by_second, no_more, one_more, choose, equal_kinds, added, united}
+use Rattle.rap_grammar_shapes.proofs.ContentLaws.{equal_kinds_so, united_left, united_right, told_unsound, whole_left, whole_right}
 
 -- a child: a leaf or a node
 abbrev pub child_of : Bool → ℕ → Child
@@ -110,6 +110,7 @@ run m any_leaf ts = from_each any_leads m ts
 run m (node_of ks) ts = from_each (kinds_lead false ks) m ts
 run m a_float ts = from_each float_leads m ts
 run m spoilt ts = Some []
+run m owed ts = Some []
 run m (a ⋅ b) ts = on_set (run m a ts) (λ us. run m b us)
 run m (a or b) ts = both_sets (run m a ts) (run m b ts)
 run m (any_of a) ts = turns_run 8 (λ us. run m a us) ts
@@ -371,7 +372,8 @@ run_so m (node_of ks) qs ts e q i cs (a_node {kind = k} j) w =
 run_so m a_float qs ts e q i cs the_float w =
     led_reach m ts q float_child
     (from_so float_leads float_child (λ ss us h. float_so ss us (float_target ss) refl h) m qs ts e q i)
-run_so m spoilt qs ts e q i cs (not_whole h) w = not_both cs h w
+run_so m spoilt qs ts e q i cs (is_told h) w = not_both cs (told_unsound cs h) w
+run_so m owed qs ts e q i cs (not_whole h) w = not_both cs h w
 run_so m (a ⋅ b) qs ts e q i cs (in_order {cs = xs} {ds = ys} s t) w =
     by_set (run m a qs) (λ us. run m b us) ts e
     (λ us j k.

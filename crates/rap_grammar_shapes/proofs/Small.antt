@@ -5,12 +5,12 @@ use Rattle.rap_grammar_scripts.specs.declared.rule.Rule.{Rule}
 use Rattle.rap_grammar_scripts.specs.declared.rule.Rule.TheVariants as knot
 use Rattle.rap_grammar_scripts.proofs.Scripts.{scripts}
 use Rattle.rap_grammar_table.proofs.Tests.{tests}
-use Rattle.rap_grammar_shapes.proofs.Claims.{brings, looks}
+use Rattle.rap_grammar_shapes.proofs.Claims.{brings}
 use Rattle.rap_grammar_shapes.proofs.Ends.{brings_all}
 
 -- The ends of a rule's script are what it brings.
 abbrev pub Keeps : Rule → Type 0
-Keeps c = brings_all (looks c) (script_of c) (brings c) ≡ true
+Keeps c = brings_all (script_of c) (brings c) ≡ true
 
 pub token_tree_keeps : Keeps knot.TokenTree
 unfolding scripts tests

@@ -2,7 +2,7 @@
 use Rattle.std.specs.Prelude.{◌≡◌, ◌⊎◌, ℕ, true, false, List, All}
 use Rattle.rap_base.specs.NodeKind.{SOURCE_FILE, MACRO_ITEMS, MACRO_STMTS}
 use Rattle.rap_base.specs.TokenKind.{ERROR}
-use Rattle.rap_events.specs.Forest.{Forest, none, node}
+use Rattle.rap_events.specs.Forest.{Forest, none, node, message_count}
 use Rattle.rap_events.specs.Record.{IsTokenRecord}
 use Rattle.rap_grammar_core.specs.StandsIn.{NodeAt}
 use Rattle.rap_grammar_scripts.specs.Adt.{record_field_list, variant_list}
@@ -25,21 +25,24 @@ use Rattle.rap_grammar_scripts.specs.declared.arguments.Semicolon.TheVariants as
 use Rattle.rap_grammar_scripts.specs.declared.rule.Rule.{Rule}
 use Rattle.rap_grammar_table.specs.Shapes.{Child, children_of, shape, Spells}
 use Rattle.rap_grammar_shapes.specs.Shapes.{shape_of}
+use Rattle.rap_grammar_shapes.specs.Spelled.{spelled_children}
 use Rattle.rap_grammar_shapes.specs.Whole.{IsWhole}
 
 -- Each node that has no message and no ERROR right under it, wherever it stands, has children that the shape of its kind
--- spells, in order.
-abbrev pub HaveShapes : Forest → Type 0
-HaveShapes forest =
-    (place kind : ℕ) (children : Forest) → NodeAt forest place kind children → IsWhole (children_of children) →
-    Spells (shape_of kind) (children_of children)
+-- spells, in order. Where there is no message in the forest, no node is an ERROR.
+pub record HaveShapes (forest : Forest) : Type 0 where
+  pub shapes : (place kind : ℕ) (children : Forest) → NodeAt forest place kind children →
+      IsWhole (children_of children) → Spells (shape_of kind) (spelled_children children)
+  pub told : message_count forest ≡ 0 → (place : ℕ) (children : Forest) → NodeAt forest place ERROR children → ⊥
 
 -- The same of what an entry makes, but for an `ERROR` over everything, which an entry puts around what it did not read as
 -- one tree.
-abbrev pub HaveShapesWithin : Forest → Type 0
-HaveShapesWithin output =
-    (place kind : ℕ) (children : Forest) → NodeAt output place kind children → IsWhole (children_of children) →
-    (output ≡ node none ERROR children) ⊎ Spells (shape_of kind) (children_of children)
+pub record HaveShapesWithin (output : Forest) : Type 0 where
+  pub shapes : (place kind : ℕ) (children : Forest) → NodeAt output place kind children →
+      IsWhole (children_of children) →
+      (output ≡ node none ERROR children) ⊎ Spells (shape_of kind) (spelled_children children)
+  pub told : message_count output ≡ 0 → (place : ℕ) (children : Forest) → NodeAt output place ERROR children →
+      output ≡ node none ERROR children
 
 -- What the rows of the table give a node of a kind, in a tree that they derive, is of the kind's shape too.
 abbrev pub RowsFit : Type 0

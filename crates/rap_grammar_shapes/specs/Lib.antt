@@ -1,4 +1,5 @@
 pub mod HaveShapes
 pub mod Parts
 pub mod Shapes
+pub mod Spelled
 pub mod Whole

@@ -3,8 +3,8 @@
 -- The line above a shape says what its kind is: docs/nodes takes the page of the kinds from here.
 use Rattle.std.specs.Prelude.{◌==◌, ℕ, List, [], ◌∷◌, ◌++◌, if◌then◌else◌}
 use Rattle.rap_base.specs.NodeKind.{ABI, ARG_LIST, ARRAY_EXPR, ARRAY_TYPE, ASM_CLOBBER_ABI, ASM_CONST, ASM_DIR_SPEC, ASM_EXPR, ASM_LABEL, ASM_OPERAND_EXPR, ASM_OPERAND_NAMED, ASM_OPTION, ASM_OPTIONS, ASM_REG_OPERAND, ASM_REG_SPEC, ASM_SYM, ASSOC_ITEM_LIST, ASSOC_TYPE_ARG, ATTR, AWAIT_EXPR, BECOME_EXPR, BIN_EXPR, BLOCK_EXPR, BOX_PAT, BREAK_EXPR, CALL_EXPR, CAST_EXPR, CFG_ATOM, CFG_ATTR_META, CFG_COMPOSITE, CFG_META, CFG_PRED_EXPR, CFG_PRED_PAT, CLOSURE_EXPR, CONST, CONST_ARG, CONST_BLOCK_PAT, CONST_PARAM, CONTINUE_EXPR, DEREF_PAT, DOC_COMMENT, DYN_TRAIT_TYPE, ENUM, EXPR_STMT, EXTERN_BLOCK, EXTERN_CRATE, EXTERN_ITEM_LIST, FIELD_EXPR, FN, FN_PTR_TYPE, FORMAT_ARGS_ARG, FORMAT_ARGS_EXPR, FOR_BINDER, FOR_EXPR, FOR_TYPE, GENERIC_ARG_LIST, GENERIC_PARAM_LIST, IDENT_PAT, IF_EXPR, IMPL, IMPL_RESTRICTION, IMPL_TRAIT_TYPE, INCLUDE_BYTES_EXPR, INDEX_EXPR, INFER_TYPE, ITEM_LIST, KEY_VALUE_META, LABEL, LET_ELSE, LET_EXPR, LET_STMT, LIFETIME, LIFETIME_ARG, LIFETIME_PARAM, LITERAL, LITERAL_PAT, LOOP_EXPR, MACRO_CALL, MACRO_DEF, MACRO_EXPR, MACRO_ITEMS, MACRO_PAT, MACRO_RULES, MACRO_STMTS, MACRO_TYPE, MATCH_ARM, MATCH_ARM_LIST, MATCH_EXPR, MATCH_GUARD, METHOD_CALL_EXPR, MODULE, MUT_RESTRICTION, NAME, NAME_REF, NEVER_TYPE, NOT_NULL, OFFSET_OF_EXPR, OR_PAT, PARAM, PARAM_LIST, PARENTHESIZED_ARG_LIST, PAREN_EXPR, PAREN_PAT, PAREN_TYPE, PATH, PATH_EXPR, PATH_META, PATH_PAT, PATH_SEGMENT, PATH_TYPE, PATTERN_TYPE, PREFIX_EXPR, PTR_TYPE, RANGE_EXPR, RANGE_PAT, RECORD_EXPR, RECORD_EXPR_FIELD, RECORD_EXPR_FIELD_LIST, RECORD_FIELD, RECORD_FIELD_LIST, RECORD_PAT, RECORD_PAT_FIELD, RECORD_PAT_FIELD_LIST, REF_EXPR, REF_PAT, REF_TYPE, RENAME, REST_PAT, RETURN_EXPR, RETURN_TYPE_SYNTAX, RET_TYPE, SELF_PARAM, SLICE_PAT, SLICE_TYPE, SOURCE_FILE, STATIC, STMT_LIST, STRUCT, TOKEN_TREE, TOKEN_TREE_META, TRAIT, TRY_BLOCK_MODIFIER, TRY_EXPR, TUPLE_EXPR, TUPLE_FIELD, TUPLE_FIELD_LIST, TUPLE_PAT, TUPLE_STRUCT_PAT, TUPLE_TYPE, TYPE_ALIAS, TYPE_ANCHOR, TYPE_ARG, TYPE_BOUND, TYPE_BOUND_LIST, TYPE_PARAM, UNDERSCORE_EXPR, UNION, UNSAFE_META, USE, USE_BOUND_GENERIC_ARGS, USE_TREE, USE_TREE_LIST, VARIANT, VARIANT_LIST, VISIBILITY, VISIBILITY_INNER, WHERE_CLAUSE, WHERE_PRED, WHILE_EXPR, WILDCARD_PAT, YEET_EXPR, YIELD_EXPR}
-use Rattle.rap_base.specs.TokenKind.{AMP, AMP2, AMPEQ, ASM_KW, ASYNC_KW, AS_KW, AT, ATT_SYNTAX_KW, AUTO_KW, AWAIT_KW, BANG, BECOME_KW, BIKESHED_KW, BOX_KW, BREAK_KW, BUILTIN_KW, CARET, CARETEQ, CFG_ATTR_KW, CFG_KW, CLOBBER_ABI_KW, COLON, COLON2, COMMA, CONST_KW, CONTINUE_KW, CRATE_KW, DEFAULT_KW, DEREF_KW, DOT, DOT2, DOT2EQ, DOT3, DO_KW, DYN_KW, ELSE_KW, ENUM_KW, EQ, EQ2, ERROR, EXTERN_KW, FAT_ARROW, FN_KW, FORMAT_ARGS_KW, FOR_KW, FRONTMATTER, GEN_KW, GLOBAL_ASM_KW, GTEQ, IDENT, IF_KW, IMPL_KW, INCLUDE_BYTES_KW, INLATEOUT_KW, INOUT_KW, IN_KW, IS_KW, LABEL_KW, LATEOUT_KW, LET_KW, LIFETIME_IDENT, LOOP_KW, LTEQ, L_ANGLE, L_BRACK, L_CURLY, L_PAREN, MACRO_KW, MACRO_RULES_KW, MATCH_KW, MAY_UNWIND_KW, MINUS, MINUSEQ, MOD_KW, MOVE_KW, MUT_KW, NAKED_ASM_KW, NEQ, NOMEM_KW, NORETURN_KW, NOSTACK_KW, OFFSET_OF_KW, OPTIONS_KW, OUT_KW, PATTERN_TYPE_KW, PERCENT, PERCENTEQ, PIPE, PIPE2, PIPEEQ, PLUS, PLUSEQ, POUND, PRESERVES_FLAGS_KW, PUB_KW, PURE_KW, QUESTION, RAW_KW, READONLY_KW, REF_KW, RETURN_KW, R_ANGLE, R_BRACK, R_CURLY, R_PAREN, SAFE_KW, SELF_KW, SEMICOLON, SHEBANG, SHL, SHLEQ, SHR, SHREQ, SLASH, SLASHEQ, STAR, STAREQ, STATIC_KW, STRING, STRUCT_KW, SUPER_KW, SYM_KW, THIN_ARROW, TILDE, TRAIT_KW, TRY_KW, TYPE_KW, UNDERSCORE, UNION_KW, UNSAFE_KW, USE_KW, WHERE_KW, WHILE_KW, YEET_KW, YIELD_KW}
-use Rattle.rap_grammar_table.specs.Shapes.{Shape, nothing, leaf_of, any_leaf, node_of, a_float, ◌⋅◌, ◌or◌, any_of}
+use Rattle.rap_base.specs.TokenKind.{AMP, AMP2, AMPEQ, ASM_KW, ASYNC_KW, AS_KW, AT, ATT_SYNTAX_KW, AUTO_KW, AWAIT_KW, BANG, BECOME_KW, BIKESHED_KW, BOX_KW, BREAK_KW, BUILTIN_KW, BYTE, BYTE_STRING, CARET, CARETEQ, CFG_ATTR_KW, CFG_KW, CHAR, CLOBBER_ABI_KW, COLON, COLON2, COMMA, CONST_KW, CONTINUE_KW, CRATE_KW, C_STRING, DEFAULT_KW, DEREF_KW, DOT, DOT2, DOT2EQ, DOT3, DO_KW, DYN_KW, ELSE_KW, ENUM_KW, EQ, EQ2, ERROR, EXTERN_KW, FALSE_KW, FAT_ARROW, FLOAT_NUMBER, FN_KW, FORMAT_ARGS_KW, FOR_KW, FRONTMATTER, GEN_KW, GLOBAL_ASM_KW, GTEQ, IDENT, IF_KW, IMPL_KW, INCLUDE_BYTES_KW, INLATEOUT_KW, INNER_DOC_COMMENT, INOUT_KW, INT_NUMBER, IN_KW, IS_KW, LABEL_KW, LATEOUT_KW, LET_KW, LIFETIME_IDENT, LOOP_KW, LTEQ, L_ANGLE, L_BRACK, L_CURLY, L_PAREN, MACRO_KW, MACRO_RULES_KW, MATCH_KW, MAY_UNWIND_KW, MINUS, MINUSEQ, MOD_KW, MOVE_KW, MUT_KW, NAKED_ASM_KW, NEQ, NOMEM_KW, NORETURN_KW, NOSTACK_KW, OFFSET_OF_KW, OPTIONS_KW, OUTER_DOC_COMMENT, OUT_KW, PATTERN_TYPE_KW, PERCENT, PERCENTEQ, PIPE, PIPE2, PIPEEQ, PLUS, PLUSEQ, POUND, PRESERVES_FLAGS_KW, PUB_KW, PURE_KW, QUESTION, RAW_KW, READONLY_KW, REF_KW, RETURN_KW, R_ANGLE, R_BRACK, R_CURLY, R_PAREN, SAFE_KW, SELF_KW, SELF_TYPE_KW, SEMICOLON, SHEBANG, SHL, SHLEQ, SHR, SHREQ, SLASH, SLASHEQ, STAR, STAREQ, STATIC_KW, STRING, STRUCT_KW, SUPER_KW, SYM_KW, THIN_ARROW, TILDE, TRAIT_KW, TRUE_KW, TRY_KW, TYPE_KW, UNDERSCORE, UNION_KW, UNSAFE_KW, USE_KW, WHERE_KW, WHILE_KW, YEET_KW, YIELD_KW}
+use Rattle.rap_grammar_table.specs.Shapes.{Shape, nothing, leaf_of, any_leaf, node_of, ◌⋅◌, ◌or◌, any_of}
 
 -- what the children of nodes of a kind are
 infix 3 ◌has◌
@@ -33,12 +33,12 @@ in_braces a = token L_CURLY ⋅ a ⋅ token R_CURLY
 abbrev pub in_angles : Shape → Shape
 in_angles a = token L_ANGLE ⋅ a ⋅ token R_ANGLE
 
--- elements with a comma between, of which one may stand last; and elements behind each of which a comma may stand
+-- elements with a comma between, of which one may stand last; and of one element alone, that comma at least
 abbrev pub listed : Shape → Shape
 listed a = any_of (a ⋅ token COMMA) ⋅ opt a
 
-abbrev pub loosely_listed : Shape → Shape
-loosely_listed a = any_of (a ⋅ opt (token COMMA))
+abbrev pub not_one : Shape → Shape
+not_one a = opt (a ⋅ token COMMA ⋅ listed a)
 
 -- Kinds of expressions: those that a call, a field or a `?` may stand behind, first without fields; and all.
 abbrev pub other_operands : List ℕ
@@ -166,21 +166,18 @@ default_type = opt (token EQ ⋅ type)
 abbrev pub default_value : Shape
 default_value = opt (token EQ ⋅ one CONST_ARG)
 
--- What stands before an item; and where it may have modifiers, what stands before its ABI, behind it, and all.
+-- What stands before an item; and where it may have modifiers, the first of them, how safe it is, and all that each has.
 abbrev pub visible : Shape
 visible = attributes ⋅ opt (one VISIBILITY)
 
-abbrev pub before_abi : Shape
-before_abi =
-    visible ⋅ opt (one IMPL_RESTRICTION) ⋅ opt (token CONST_KW) ⋅ opt (token ASYNC_KW) ⋅ opt (token GEN_KW) ⋅
-    opt (token UNSAFE_KW) ⋅ opt (token SAFE_KW)
+abbrev pub before_safety : Shape
+before_safety = visible ⋅ opt (one IMPL_RESTRICTION) ⋅ opt (token CONST_KW) ⋅ opt (token ASYNC_KW)
 
-abbrev pub behind_abi : Shape
-behind_abi =
-    opt (token AUTO_KW) ⋅ opt (token DEFAULT_KW ⋅ opt (token ASYNC_KW) ⋅ opt (token UNSAFE_KW))
+abbrev pub safety : Shape
+safety = opt (token UNSAFE_KW) ⋅ opt (token SAFE_KW)
 
 abbrev pub modified : Shape
-modified = before_abi ⋅ opt (one ABI) ⋅ behind_abi
+modified = before_safety ⋅ safety ⋅ opt (one ABI)
 
 -- the parameters of a declaration, and its conditions
 abbrev pub generic : Shape
@@ -204,19 +201,16 @@ abbrev pub bound : Shape
 bound =
     one LIFETIME or token USE_KW ⋅ one USE_BOUND_GENERIC_ARGS or bound_modifiers ⋅ one PATH_TYPE
 
--- An operand and the dot behind it, of which a float that is taken apart may be a part; and what is taken out of it.
+-- An operand and the dot behind it, which is a part of a field whose float ends in it.
 abbrev pub of_operand : Shape
 of_operand = other_operand ⋅ token DOT or one FIELD_EXPR ⋅ opt (token DOT)
-
-abbrev pub member : Shape
-member = one NAME_REF or a_float
 
 -- `builtin # word`, and names with dots between
 abbrev pub built_in : ℕ → Shape
 built_in word = token BUILTIN_KW ⋅ token POUND ⋅ token word
 
 abbrev pub dotted_names : Shape
-dotted_names = any_of (one NAME_REF ⋅ opt (token DOT))
+dotted_names = any_of (one NAME_REF ⋅ token DOT) ⋅ opt (one NAME_REF)
 
 -- Whole texts
 abbrev pub text_shapes : List (ℕ × Shape)
@@ -237,7 +231,7 @@ name_shapes =
     -- a name where it is declared
     (NAME has leaf_of (IDENT ∷ SELF_KW ∷ []))
     -- a name where it is used: a word, `self` and the like, or the number of a field
-    ∷ (NAME_REF has any_leaf)
+    ∷ (NAME_REF has leaf_of (IDENT ∷ SELF_KW ∷ SUPER_KW ∷ CRATE_KW ∷ SELF_TYPE_KW ∷ INT_NUMBER ∷ []))
     -- a lifetime
     ∷ (LIFETIME has token LIFETIME_IDENT)
     -- another name for what is imported
@@ -264,11 +258,11 @@ generic_shapes =
     -- a lifetime as an argument
     ∷ (LIFETIME_ARG has one LIFETIME)
     -- a constant as an argument, a length, a default or the value of a variant
-    ∷ (CONST_ARG has opt expression)
+    ∷ (CONST_ARG has expression)
     -- an associated type or constant, with its value or its bounds
     ∷ (ASSOC_TYPE_ARG has
     one NAME_REF ⋅ arguments ⋅
-    (token COLON ⋅ one TYPE_BOUND_LIST or any_leaf ⋅ (type or one CONST_ARG)))
+    (token COLON ⋅ one TYPE_BOUND_LIST or token EQ ⋅ (type or one CONST_ARG)))
     -- the generic parameters of a declaration
     ∷ (GENERIC_PARAM_LIST has in_angles (listed generic_parameter))
     -- a lifetime as a parameter
@@ -314,11 +308,14 @@ item_shapes =
     ∷ (USE_TREE_LIST has in_braces (listed (one USE_TREE)))
     -- a function
     ∷ (FN has
-    modified ⋅ token FN_KW ⋅ one NAME ⋅ generic ⋅ one PARAM_LIST ⋅ opt (one RET_TYPE) ⋅ where_clause ⋅
+    before_safety ⋅
+    (token GEN_KW
+    or safety ⋅ opt (one ABI) ⋅ opt (token DEFAULT_KW ⋅ opt (token ASYNC_KW) ⋅ opt (token UNSAFE_KW))) ⋅
+    token FN_KW ⋅ one NAME ⋅ generic ⋅ one PARAM_LIST ⋅ opt (one RET_TYPE) ⋅ where_clause ⋅
     (token SEMICOLON or one BLOCK_EXPR))
     -- the parameters of a function, in brackets, or of a closure, between bars
     ∷ (PARAM_LIST has
-    in_parens (attributes or opt (one SELF_PARAM ⋅ opt (token COMMA)) ⋅ listed (one PARAM))
+    in_parens (attributes or one SELF_PARAM or opt (one SELF_PARAM ⋅ token COMMA) ⋅ listed (one PARAM))
     or token PIPE ⋅ listed (one PARAM) ⋅ token PIPE)
     -- a parameter: a pattern with its type, one of them alone, or `...`
     ∷ (PARAM has
@@ -337,7 +334,7 @@ item_shapes =
     ∷ (ABI has token EXTERN_KW ⋅ opt (token STRING))
     -- a name for a type, or an associated type
     ∷ (TYPE_ALIAS has
-    modified ⋅ token TYPE_KW ⋅ one NAME ⋅ generic ⋅ bounded ⋅ where_clause ⋅ default_type ⋅ where_clause ⋅
+    modified ⋅ opt (token DEFAULT_KW) ⋅ token TYPE_KW ⋅ one NAME ⋅ generic ⋅ bounded ⋅ where_clause ⋅ default_type ⋅ where_clause ⋅
     token SEMICOLON)
     -- a structure
     ∷ (STRUCT has
@@ -346,9 +343,10 @@ item_shapes =
     or one TUPLE_FIELD_LIST ⋅ where_clause ⋅ token SEMICOLON))
     -- a union
     ∷ (UNION has
-    visible ⋅ token UNION_KW ⋅ one NAME ⋅ generic ⋅ where_clause ⋅ (token SEMICOLON or one RECORD_FIELD_LIST))
+    visible ⋅ token UNION_KW ⋅ one NAME ⋅ generic ⋅
+    (where_clause ⋅ one RECORD_FIELD_LIST or one WHERE_CLAUSE ⋅ token SEMICOLON))
     -- fields with names, in braces
-    ∷ (RECORD_FIELD_LIST has in_braces (loosely_listed (one RECORD_FIELD)))
+    ∷ (RECORD_FIELD_LIST has in_braces (listed (one RECORD_FIELD)))
     -- a field with a name
     ∷ (RECORD_FIELD has
     visible ⋅ opt (one MUT_RESTRICTION) ⋅ opt (token UNSAFE_KW ⋅ opt (one MUT_RESTRICTION)) ⋅ one NAME ⋅ typed ⋅
@@ -360,14 +358,14 @@ item_shapes =
     -- an enumeration
     ∷ (ENUM has visible ⋅ token ENUM_KW ⋅ one NAME ⋅ generic ⋅ where_clause ⋅ one VARIANT_LIST)
     -- the variants of an enumeration
-    ∷ (VARIANT_LIST has in_braces (loosely_listed (one VARIANT)))
+    ∷ (VARIANT_LIST has in_braces (listed (one VARIANT)))
     -- a variant of an enumeration
     ∷ (VARIANT has
     attributes ⋅ (one NAME or token UNDERSCORE) ⋅ opt (node_of (RECORD_FIELD_LIST ∷ TUPLE_FIELD_LIST ∷ [])) ⋅
     default_value)
     -- a constant
     ∷ (CONST has
-    modified ⋅ opt (token TYPE_KW) ⋅ token CONST_KW ⋅ opt (token MUT_KW) ⋅ (one NAME or token UNDERSCORE) ⋅ generic ⋅
+    modified ⋅ opt (token DEFAULT_KW) ⋅ opt (token TYPE_KW) ⋅ token CONST_KW ⋅ opt (token MUT_KW) ⋅ (one NAME or token UNDERSCORE) ⋅ generic ⋅
     typed ⋅ opt (token EQ ⋅ expression) ⋅ where_clause ⋅ token SEMICOLON)
     -- a static variable
     ∷ (STATIC has
@@ -375,17 +373,17 @@ item_shapes =
     token SEMICOLON)
     -- a trait, or a name for bounds
     ∷ (TRAIT has
-    modified ⋅ token TRAIT_KW ⋅ one NAME ⋅ generic ⋅
+    modified ⋅ opt (token AUTO_KW) ⋅ token TRAIT_KW ⋅ one NAME ⋅ generic ⋅
     (bounded ⋅ where_clause ⋅ one ASSOC_ITEM_LIST
     or token EQ ⋅ one TYPE_BOUND_LIST ⋅ where_clause ⋅ token SEMICOLON))
     -- the implementation of a trait or of a type
     ∷ (IMPL has
-    modified ⋅ token IMPL_KW ⋅ generic ⋅ opt (token CONST_KW) ⋅ opt (token BANG) ⋅ type ⋅
+    modified ⋅ opt (token DEFAULT_KW ⋅ opt (token UNSAFE_KW)) ⋅ token IMPL_KW ⋅ generic ⋅ opt (token CONST_KW) ⋅ opt (token BANG) ⋅ type ⋅
     opt (token FOR_KW ⋅ type) ⋅ where_clause ⋅ one ASSOC_ITEM_LIST)
     -- the items of a trait or of an implementation
     ∷ (ASSOC_ITEM_LIST has in_braces (attributes ⋅ any_of item))
     -- a block of items that are defined elsewhere
-    ∷ (EXTERN_BLOCK has before_abi ⋅ one ABI ⋅ behind_abi ⋅ one EXTERN_ITEM_LIST)
+    ∷ (EXTERN_BLOCK has before_safety ⋅ safety ⋅ one ABI ⋅ one EXTERN_ITEM_LIST)
     -- the items of such a block
     ∷ (EXTERN_ITEM_LIST has in_braces (attributes ⋅ any_of item))
     -- who may see what follows
@@ -412,7 +410,7 @@ item_shapes =
 abbrev pub attribute_shapes : List (ℕ × Shape)
 attribute_shapes =
     -- a comment of documentation
-    (DOC_COMMENT has any_leaf)
+    (DOC_COMMENT has leaf_of (OUTER_DOC_COMMENT ∷ INNER_DOC_COMMENT ∷ []))
     -- an attribute
     ∷ (ATTR has token POUND ⋅ opt (token BANG) ⋅ in_brackets meta)
     -- an attribute that is a path alone
@@ -428,7 +426,7 @@ attribute_shapes =
     -- attributes under a condition
     ∷ (CFG_ATTR_META has token CFG_ATTR_KW ⋅ in_parens (predicate ⋅ token COMMA ⋅ listed meta))
     -- an option, perhaps with its value, or `true` or `false`
-    ∷ (CFG_ATOM has token IDENT ⋅ opt (token EQ ⋅ token STRING) or any_leaf)
+    ∷ (CFG_ATOM has token IDENT ⋅ opt (token EQ ⋅ token STRING) or leaf_of (TRUE_KW ∷ FALSE_KW ∷ []))
     -- `all`, `any` or `not` of conditions
     ∷ (CFG_COMPOSITE has token IDENT ⋅ in_parens (listed predicate))
     ∷ []
@@ -441,15 +439,15 @@ type_shapes =
     -- a reference
     ∷ (REF_TYPE has token AMP ⋅ opt (one LIFETIME) ⋅ opt (token MUT_KW) ⋅ type)
     -- a raw pointer: `mut` or `const` behind the star
-    ∷ (PTR_TYPE has token STAR ⋅ any_leaf ⋅ type)
+    ∷ (PTR_TYPE has token STAR ⋅ leaf_of (CONST_KW ∷ MUT_KW ∷ []) ⋅ type)
     -- a slice
     ∷ (SLICE_TYPE has in_brackets type)
     -- an array
     ∷ (ARRAY_TYPE has in_brackets (type ⋅ token SEMICOLON ⋅ one CONST_ARG))
     -- a tuple
-    ∷ (TUPLE_TYPE has in_parens (listed type))
+    ∷ (TUPLE_TYPE has in_parens (not_one type))
     -- a type in brackets
-    ∷ (PAREN_TYPE has in_parens (type ⋅ any_of (token COMMA ⋅ type)))
+    ∷ (PAREN_TYPE has in_parens type)
     -- the type without values
     ∷ (NEVER_TYPE has token BANG)
     -- a type that is left to be inferred
@@ -481,7 +479,7 @@ pattern_shapes =
     -- a path as a pattern
     ∷ (PATH_PAT has one PATH)
     -- a literal, perhaps with a minus
-    ∷ (LITERAL_PAT has opt (token MINUS) ⋅ opt (one LITERAL))
+    ∷ (LITERAL_PAT has opt (token MINUS) ⋅ one LITERAL)
     -- a range, of which one end may be missing
     ∷ (RANGE_PAT has
     leaf_of (DOT2 ∷ DOT2EQ ∷ []) ⋅ range_end
@@ -489,9 +487,9 @@ pattern_shapes =
     -- a reference
     ∷ (REF_PAT has token AMP ⋅ opt (token MUT_KW) ⋅ single_pattern)
     -- a pattern in brackets
-    ∷ (PAREN_PAT has in_parens (loosely_listed pattern))
+    ∷ (PAREN_PAT has in_parens pattern)
     -- a tuple
-    ∷ (TUPLE_PAT has in_parens (loosely_listed pattern))
+    ∷ (TUPLE_PAT has in_parens (listed pattern))
     -- a slice or an array
     ∷ (SLICE_PAT has in_brackets (listed pattern))
     -- a path with patterns in brackets
@@ -499,7 +497,7 @@ pattern_shapes =
     -- a path with fields in braces
     ∷ (RECORD_PAT has one PATH ⋅ one RECORD_PAT_FIELD_LIST)
     -- those fields
-    ∷ (RECORD_PAT_FIELD_LIST has in_braces (loosely_listed (node_of (RECORD_PAT_FIELD ∷ REST_PAT ∷ []))))
+    ∷ (RECORD_PAT_FIELD_LIST has in_braces (listed (node_of (RECORD_PAT_FIELD ∷ REST_PAT ∷ []))))
     -- a field with its pattern, or its name alone
     ∷ (RECORD_PAT_FIELD has
     attributes ⋅ (node_of (BOX_PAT ∷ IDENT_PAT ∷ []) or one NAME_REF ⋅ token COLON ⋅ pattern))
@@ -538,28 +536,31 @@ statement_shapes =
 abbrev pub expression_shapes : List (ℕ × Shape)
 expression_shapes =
     -- a literal
-    (LITERAL has attributes ⋅ any_leaf)
+    (LITERAL has
+    attributes ⋅
+    leaf_of (INT_NUMBER ∷ FLOAT_NUMBER ∷ CHAR ∷ BYTE ∷ STRING ∷ BYTE_STRING ∷ C_STRING ∷ TRUE_KW ∷ FALSE_KW ∷ []))
     -- a path as an expression
     ∷ (PATH_EXPR has attributes ⋅ one PATH)
     -- `_` as an expression
     ∷ (UNDERSCORE_EXPR has attributes ⋅ token UNDERSCORE)
     -- an expression in brackets
-    ∷ (PAREN_EXPR has attributes ⋅ in_parens (loosely_listed expression))
+    ∷ (PAREN_EXPR has attributes ⋅ in_parens expression)
     -- a tuple
-    ∷ (TUPLE_EXPR has attributes ⋅ in_parens (loosely_listed expression))
+    ∷ (TUPLE_EXPR has attributes ⋅ in_parens (not_one expression))
     -- an array: its elements, or one and how many
-    ∷ (ARRAY_EXPR has attributes ⋅ in_brackets (any_of (expression ⋅ opt (leaf_of (COMMA ∷ SEMICOLON ∷ [])))))
+    ∷ (ARRAY_EXPR has attributes ⋅ in_brackets (listed expression or expression ⋅ token SEMICOLON ⋅ opt expression))
     -- a value of a structure
     ∷ (RECORD_EXPR has attributes ⋅ one PATH ⋅ one RECORD_EXPR_FIELD_LIST)
     -- its fields, and `..` with the value that the others are taken from
     ∷ (RECORD_EXPR_FIELD_LIST has
-    in_braces (loosely_listed (one RECORD_EXPR_FIELD or attributes ⋅ token DOT2 ⋅ opt expression)))
+    in_braces (any_of ((one RECORD_EXPR_FIELD or attributes ⋅ token DOT2 ⋅ expression) ⋅ token COMMA) ⋅
+    opt (one RECORD_EXPR_FIELD or attributes ⋅ token DOT2 ⋅ opt expression)))
     -- a field with its value, or a variable of the same name
     ∷ (RECORD_EXPR_FIELD has attributes ⋅ opt (one NAME_REF ⋅ token COLON) ⋅ expression)
     -- a call of a macro as an expression
     ∷ (MACRO_EXPR has attributes ⋅ one MACRO_CALL)
     -- a sign before an expression
-    ∷ (PREFIX_EXPR has attributes ⋅ (token MINUS ⋅ opt expression or any_leaf ⋅ expression))
+    ∷ (PREFIX_EXPR has attributes ⋅ (token MINUS ⋅ opt expression or leaf_of (BANG ∷ MINUS ∷ STAR ∷ []) ⋅ expression))
     -- a reference, or a raw pointer
     ∷ (REF_EXPR has
     attributes ⋅ token AMP ⋅
@@ -577,9 +578,8 @@ expression_shapes =
     -- a call of a method
     ∷ (METHOD_CALL_EXPR has
     attributes ⋅ of_operand ⋅ one NAME_REF ⋅ opt (one GENERIC_ARG_LIST) ⋅ one ARG_LIST)
-    -- a field by its name or its number; `x.1.2`, where a float is taken apart, is two
-    ∷ (FIELD_EXPR has
-    attributes ⋅ (other_operand ⋅ token DOT ⋅ member or one FIELD_EXPR ⋅ opt (opt (token DOT) ⋅ member)))
+    -- a field by its name or its number
+    ∷ (FIELD_EXPR has attributes ⋅ of_operand ⋅ one NAME_REF)
     -- an element by its index
     ∷ (INDEX_EXPR has attributes ⋅ operand ⋅ in_brackets expression)
     -- a future that is awaited
@@ -589,7 +589,10 @@ expression_shapes =
     -- a block, perhaps with a label, or with words as `unsafe` or `async`
     ∷ (BLOCK_EXPR has
     attributes ⋅
-    opt (node_of (LABEL ∷ TRY_BLOCK_MODIFIER ∷ []) or any_leaf ⋅ opt (token GEN_KW) ⋅ opt (token MOVE_KW)) ⋅
+    opt (node_of (LABEL ∷ TRY_BLOCK_MODIFIER ∷ [])
+    or leaf_of (CONST_KW ∷ UNSAFE_KW ∷ [])
+    or token ASYNC_KW ⋅ opt (token GEN_KW) ⋅ opt (token MOVE_KW)
+    or token GEN_KW ⋅ opt (token MOVE_KW)) ⋅
     one STMT_LIST)
     -- the label of a block or a loop
     ∷ (LABEL has one LIFETIME ⋅ token COLON)
@@ -597,8 +600,12 @@ expression_shapes =
     ∷ (TRY_BLOCK_MODIFIER has token TRY_KW ⋅ opt (token BIKESHED_KW ⋅ type))
     -- a closure
     ∷ (CLOSURE_EXPR has
-    attributes ⋅ opt (one FOR_BINDER) ⋅ opt (token CONST_KW) ⋅ opt (token STATIC_KW) ⋅ opt (token ASYNC_KW) ⋅
-    opt (token GEN_KW) ⋅ opt (token MOVE_KW) ⋅ one PARAM_LIST ⋅ (expression or one RET_TYPE ⋅ one BLOCK_EXPR))
+    attributes ⋅
+    opt (one FOR_BINDER ⋅ opt (token CONST_KW) ⋅ opt (token STATIC_KW) ⋅ opt (token ASYNC_KW) ⋅ opt (token GEN_KW)
+    or token CONST_KW ⋅ opt (token STATIC_KW) ⋅ opt (token ASYNC_KW) ⋅ opt (token GEN_KW)
+    or token STATIC_KW ⋅ opt (token ASYNC_KW) ⋅ opt (token GEN_KW)
+    or token ASYNC_KW ⋅ opt (token GEN_KW)) ⋅
+    opt (token MOVE_KW) ⋅ one PARAM_LIST ⋅ (expression or one RET_TYPE ⋅ one BLOCK_EXPR))
     -- a choice by a condition
     ∷ (IF_EXPR has
     attributes ⋅ token IF_KW ⋅ expression ⋅ one BLOCK_EXPR ⋅
@@ -645,7 +652,7 @@ built_in_shapes =
     -- a text with arguments to format
     ∷ (FORMAT_ARGS_EXPR has
     attributes ⋅ built_in FORMAT_ARGS_KW ⋅
-    in_parens (expression ⋅ opt (token COMMA ⋅ loosely_listed (one FORMAT_ARGS_ARG))))
+    in_parens (expression ⋅ opt (token COMMA ⋅ listed (one FORMAT_ARGS_ARG))))
     -- such an argument, perhaps with a name
     ∷ (FORMAT_ARGS_ARG has opt (one NAME ⋅ token EQ) ⋅ expression)
     -- `include_bytes`, of which these words alone are taken

@@ -3,7 +3,7 @@ ghost use Rattle.rap_grammar_shapes.specs.HaveShapes.{AloneHaveShapes, RootsHave
 ghost use Rattle.rap_grammar_shapes.specs.Parts.{ShapesCount, ShapesHaveParts, ShapesName};
 
 /// Whatever a recursive rule reads, and with whatever messages: each node that it adds, and that has no message and no
-/// `ERROR` right under it, has children that the shape of its kind spells, in order.
+/// `ERROR` right under it, has children that the shape of its kind spells, in order. It adds no `ERROR` without a message.
 pub fn every_rule_keeps_shapes()
     ensures shapes { RulesKeepShapes }
 {}

@@ -105,7 +105,7 @@ abbrev is_one : Option ℕ → Bool
 is_one None = false
 is_one (Some n) = n == 1
 
-abbrev has_one : ℕ → Shape → Bool
+abbrev pub has_one : ℕ → Shape → Bool
 has_one k s = (fewest k s == 1) && is_one (most k s)
 
 names_so : every_one (λ k. has_one NAME (shape k)) named_kinds ≡ true
@@ -117,7 +117,7 @@ exactly_one n m (Some x) h a b =
     let e = same_number m 1 (and_left (m == 1) _ h) in let f = same_number x 1 (and_right (m == 1) _ h) in
     omega (arith, e, f, a, b)
 
-of_between : (k : ℕ) (s : Shape) {cs : List Child} → has_one k s ≡ true → AreBetween k s cs → nodes_of k cs ≡ 1
+pub of_between : (k : ℕ) (s : Shape) {cs : List Child} → has_one k s ≡ true → AreBetween k s cs → nodes_of k cs ≡ 1
 of_between k s {cs = cs} h b = exactly_one (nodes_of k cs) (fewest k s) (most k s) h b.at_least b.at_most
 
 pub have_one_name : HaveOneName
@@ -133,14 +133,14 @@ pub fn_children : ChildrenAre FN (Spells fn_shape)
 fn_children tokens tree children place d p =
     subst (λ (s : Shape). Spells s (children_of children)) fn_is (have_shapes FN tokens tree children place d p)
 
-none_in : {k : ℕ} {s : Shape} {cs : List Child} → most k s ≡ Some 0 → AreBetween k s cs → nodes_of k cs ≡ 0
+pub none_in : {k : ℕ} {s : Shape} {cs : List Child} → most k s ≡ Some 0 → AreBetween k s cs → nodes_of k cs ≡ 0
 none_in {k = k} {cs = cs} e b =
     let h = subst (λ (o : Option ℕ). IsAtMost (nodes_of k cs) o) e b.at_most in omega (arith, h)
 
 only : (k j : ℕ) → among (k ∷ []) j ≡ true → j ≡ k
 only k j h = by_or (k == j) false h (λ i. sym (same_number k j i)) (λ i. absurd cc)
 
-body_of : {cs : List Child} → Spells (leaf_of (SEMICOLON ∷ []) or node_of (BLOCK_EXPR ∷ [])) cs → (head : List Child) →
+pub body_of : {cs : List Child} → Spells (leaf_of (SEMICOLON ∷ []) or node_of (BLOCK_EXPR ∷ [])) cs → (head : List Child) →
     nodes_of BLOCK_EXPR head ≡ 0 → EndsInBody (head ++ cs)
 body_of (by_first (a_leaf {kind = k} m)) head n =
     record {

@@ -15,13 +15,7 @@ use Rattle.rap_lexed.specs.Trivia.{is_trivial, trivia_at, past_trivia, text_of, 
 use Rattle.rap_lexed.proofs.Joined.{joined-more, joined-placed, after_node-plain}
 use Rattle.rap_lexed.proofs.Tokens.{joined-append}
 use Rattle.rap_ranged.specs.Ranged.{end_from}
-
--- each message stands at the end of the leaves before it, which begin at a place
-abbrev pub AreSeated : ℕ → StrForest → Type 0
-AreSeated at str_none = Unit {0}
-AreSeated at (str_node before kind children) = AreSeated at before × AreSeated (end_from at before) children
-AreSeated at (str_leaf before kind text) = AreSeated at before
-AreSeated at (str_message before bytes pos) = AreSeated at before × (pos ≡ end_from at before)
+use Rattle.rap_ranged.specs.Seats.{AreSeated}
 
 -- the same of steps
 abbrev pub StepsSeated : ℕ → List StrStepValue → Type 0
@@ -198,5 +192,8 @@ seated-tree ts (message b m) h t l = absurd cc
 seated-tree ts (split b d) h t l = elim t [ ]
 
 -- the messages of a tree whose trivia are put back
+pub tree_seated : (ts : List Token) (f : Forest) → one_tree f ≡ true → splits_placed f ≡ true → TreeTouches ts f → AreSeated 0 (with_trivia ts f)
+tree_seated ts f h p l = seated-tree ts f h (tree f p) l
+
 pub seated_tree_steps : (ts : List Token) (f : Forest) → one_tree f ≡ true → splits_placed f ≡ true → TreeTouches ts f → StepsSeated 0 (str_flat (with_trivia ts f))
-seated_tree_steps ts f h p l = seated_steps (with_trivia ts f) 0 (seated-tree ts f h (tree f p) l)
+seated_tree_steps ts f h p l = seated_steps (with_trivia ts f) 0 (tree_seated ts f h p l)

@@ -10,4 +10,5 @@ pub mod Ranged
 pub mod RangedForest
 pub mod RangedMessages
 pub mod Reports
+pub mod Seats
 pub mod StepTexts

@@ -175,7 +175,7 @@ module _ (ts : List Token) where
 -- and what is known of them
 shaped : (output : Forest) (kind : ℕ) (y : StrForest) → HaveShapesWithin output → IsFrom output kind y →
     IsShaped output kind y
-shaped output kind y h (a_node {inside = x} {place = p} n e w) = of_output n e (h p kind x n w)
+shaped output kind y h (a_node {inside = x} {place = p} n e w) = of_output n e (h.shapes p kind x n w)
 shaped output kind y h (a_number e) = of_number e
 shaped output kind y h (no_field e) = of_no_field e
 

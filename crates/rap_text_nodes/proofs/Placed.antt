@@ -8,7 +8,8 @@ use Rattle.rap_base.specs.TokenKind.{DOT, ERROR, FLOAT_NUMBER}
 use Rattle.rap_base.specs.TokenTests.{is_trivia}
 use Rattle.rap_events.proofs.Truth.{and_left, and_right}
 use Rattle.rap_events.specs.Forest.{Forest, none, node, leaf, message, split}
-use Rattle.rap_grammar_shapes.specs.Whole.{IsWhole, are_sound, is_sound}
+use Rattle.rap_grammar_shapes.specs.Whole.{IsWhole}
+use Rattle.rap_grammar_shapes.proofs.ContentLaws.{both_whole}
 use Rattle.rap_grammar_table.specs.Shapes.{Child, leaf_child, node_child, float_child, children_of}
 use Rattle.rap_lexed.specs.Attached.{attached_tail, before_tail}
 use Rattle.rap_lexed.specs.FloatParts.{has_dot, illegal, is_dot, with_number}
@@ -87,20 +88,6 @@ never_whole (str_node before kind children) bytes pos = badly (is_whole_text bef
 never_whole (str_leaf before kind text) bytes pos = refl
 never_whole (str_message before m p) bytes pos = refl
 
-sound_more : (cs : List Child) (c : Child) → IsWhole cs → is_sound c ≡ true → IsWhole (cs ++ c ∷ [])
-sound_more [] c h i = both (is_sound c) true i refl
-  where
-    both : (t u : Bool) → t ≡ true → u ≡ true → (t && u) ≡ true
-    both true u h i = i
-    both false u h i = absurd cc
-sound_more (d ∷ cs) c h i =
-    both (is_sound d) (are_sound (cs ++ c ∷ [])) (and_left (is_sound d) (are_sound cs) h)
-    (sound_more cs c (and_right (is_sound d) (are_sound cs) h) i)
-  where
-    both : (t u : Bool) → t ≡ true → u ≡ true → (t && u) ≡ true
-    both true u h i = i
-    both false u h i = absurd cc
-
 -- What is found of a forest where it stands right.
 pub record Shows (start : StrForest) (c : Forest) (placed_so : StrForest) : Type 0 where
   pub same : text_children placed_so ≡ text_children start ++ shown c
@@ -165,8 +152,9 @@ module _ (ts : List Token) where
             (trivia_none (placed ts at start before) (before_tail kind us) (past_tail kind us (here ts (end_of ts at before))) ∙
             r.same) ∙ append_assoc (text_children start) (shown before) (node_child kind ∷ behind children));
         whole =
-            sound_more (children_of before) (node_child kind) r.whole
-            (and_left (not (kind == ERROR)) _ (and_right (is_whole_text f) _ x.0));
+            both_whole (children_of before) (node_child kind ∷ []) r.whole
+            (subst (λ (b : Bool). (b && true) ≡ true)
+            (sym (and_left (not (kind == ERROR)) _ (and_right (is_whole_text f) _ x.0))) refl);
       }
   level (leaf before kind width) h at start w =
       let us = trivia_at ts (end_of ts at before) in
@@ -177,7 +165,7 @@ module _ (ts : List Token) where
             (ap (λ cs. cs ++ leaf_child kind ∷ [])
             (trivia_none (placed ts at start before) us (here ts (end_of ts at before)) ∙ r.same) ∙
             append_assoc (text_children start) (shown before) (leaf_child kind ∷ []));
-        whole = sound_more (children_of before) (leaf_child kind) r.whole refl;
+        whole = both_whole (children_of before) (leaf_child kind ∷ []) r.whole refl;
       }
   level (message before bytes) h at start w =
       absurd (let z : true ≡ false = sym w ∙ never_whole (placed ts at start before) bytes (start_of ts (end_of ts at before)) in cc)
@@ -190,7 +178,7 @@ module _ (ts : List Token) where
             ap (λ cs. cs ++ node_child NAME_REF ∷ [])
             (trivia_none (placed ts at start before) us (here ts (end_of ts at before)) ∙ r.same) ∙
             append_assoc (text_children start) (shown before) (node_child NAME_REF ∷ []);
-        whole = sound_more (children_of before) float_child r.whole refl;
+        whole = both_whole (children_of before) (float_child ∷ []) r.whole refl;
       }
   level (split before false) h at start w =
       let us = trivia_at ts (end_of ts at before) in
@@ -205,7 +193,7 @@ module _ (ts : List Token) where
             (ap (λ cs. cs ++ node_child NAME_REF ∷ [])
             (trivia_none (placed ts at start before) us (here ts (end_of ts at before)) ∙ r.same) ∙
             append_assoc (text_children start) (shown before) (node_child NAME_REF ∷ []));
-        whole = sound_more (children_of before) float_child r.whole refl;
+        whole = both_whole (children_of before) (float_child ∷ []) r.whole refl;
       }
     where
       by_text : (b : Bool) (f : StrForest) (number : List ℕ) (pos : ℕ) (text : List ℕ) →

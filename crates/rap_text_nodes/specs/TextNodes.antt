@@ -9,7 +9,8 @@ use Rattle.rap_events.specs.Forest.{Forest, none, node}
 use Rattle.rap_grammar_core.specs.StandsIn.{NodeAt}
 use Rattle.rap_grammar_shapes.specs.HaveShapes.{HaveShapesWithin}
 use Rattle.rap_grammar_shapes.specs.Shapes.{shape_of}
-use Rattle.rap_grammar_table.specs.Shapes.{Child, leaf_child, node_child, message_child, children_of, Spells}
+use Rattle.rap_grammar_shapes.specs.Spelled.{spelled_children}
+use Rattle.rap_grammar_table.specs.Shapes.{Child, leaf_child, node_child, message_child, Spells}
 use Rattle.rap_lexed.specs.Input.{records}
 use Rattle.rap_lexed.specs.StrForest.{StrForest, str_none, str_node, str_leaf, str_message}
 use Rattle.rap_lexed.specs.Token.{Token}
@@ -52,12 +53,12 @@ is_whole_text (str_leaf before kind text) = is_whole_text before
 is_whole_text (str_message before bytes pos) = false
 
 -- Where the node comes from. It is a node of the output, of the same kind, and its children are what the text shows of
--- that node's, which are of the shape of the kind, if the node is no ERROR over everything. Or it is a number of a float
--- that is taken apart, as the name of a field, or such a float that has no dot.
+-- that node's, of which the shape of the kind spells all but a dot in which a float ends, if the node is no ERROR over
+-- everything. Or it is a number of a float that is taken apart, as the name of a field, or such a float that has no dot.
 pub data IsShaped (output : Forest) : ℕ → StrForest → Type 0 where
   of_output : {place kind : ℕ} {inside : Forest} {children : StrForest} → NodeAt output place kind inside →
       text_children children ≡ shown inside →
-      (output ≡ node none ERROR inside) ⊎ Spells (shape_of kind) (children_of inside) → IsShaped output kind children
+      (output ≡ node none ERROR inside) ⊎ Spells (shape_of kind) (spelled_children inside) → IsShaped output kind children
   of_number : {children : StrForest} → text_children children ≡ leaf_child INT_NUMBER ∷ [] →
       IsShaped output NAME_REF children
   of_no_field : {children : StrForest} → text_children children ≡ leaf_child FLOAT_NUMBER ∷ [] →

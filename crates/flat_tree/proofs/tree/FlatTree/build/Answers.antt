@@ -1,15 +1,19 @@
 use Rattle.rap_events.specs.Forest.{used}
 use Rattle.rap_lexed.specs.Trivia.{with_trivia}
 use Rattle.rap_ranged.proofs.Fronts.{places_of_front}
+use Rattle.rap_ranged.proofs.Seats.{tree_seated}
 use Rattle.rap_lexed.specs.StrForest.{str_flat}
 use Rattle.flat_tree.proofs.Runs.{texts_along}
-use Rattle.flat_tree.proofs.Trees.{flat_of, ordered, over_front, over_of}
+use Rattle.flat_tree.proofs.Trees.{flat_of, flat_seated, ordered, over_front, over_of}
 use Rattle.flat_tree.proofs.tree.FlatTree.build.Goals as goal
 
 pub returns-clause-flat : goal.returns-clause-flat
 returns-clause-flat c =
-    flat_of (with_trivia c.args.lexed.now.tokens c.args.output.now) c.in_ok-builder.builder c.intersperse_trivia.new.sink _
-    c.intersperse_trivia.ensures.tree c.in_ok-builder.ensures c.in_ok-_whole.ensures.steps c.into_elements.ensures
+    let f = with_trivia c.args.lexed.now.tokens c.args.output.now in
+    flat_seated f _
+    (flat_of f c.in_ok-builder.builder c.intersperse_trivia.new.sink _
+    c.intersperse_trivia.ensures.tree c.in_ok-builder.ensures c.in_ok-_whole.ensures.steps c.into_elements.ensures)
+    (tree_seated c.args.lexed.now.tokens c.args.output.now c.requires.tree c.iter.ensures.splits c.intersperse_trivia.ensures.touching)
 
 pub returns-clause-over : goal.returns-clause-over
 returns-clause-over c =
