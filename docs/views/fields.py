@@ -122,7 +122,7 @@ class Maker:
         others."""
         if letter.form == 'node_of':
             return True
-        weight = paths.Kinds(frozenset({kind}), self.views.name_ref)
+        weight = paths.Kinds(frozenset({kind}))
         return paths.most(self.states, weight.may) is not None and not paths.repeats(self.states, 'any_leaf')
 
     def fields(self) -> list[Field]:
@@ -155,7 +155,7 @@ class Maker:
         return found
 
     def field(self, said: Said, is_said: bool) -> Field:
-        weight = paths.Kinds(said.kinds, self.views.name_ref)
+        weight = paths.Kinds(said.kinds)
         is_token = said.kinds <= self.views.tokens
         least, greatest = (paths.fewest(self.states, weight.must), paths.most(self.states, weight.may))
         how = said.how or ('first' if is_token or greatest == 1 or said.places else 'all')
@@ -175,7 +175,7 @@ class Maker:
 
     def words(self, fields: list[Field]) -> set[paths.Word]:
         """The words of the shape, of the kinds that a field with a place or another one of the same kinds is about."""
-        return paths.words(self.states, [it.kinds for it in self.entangled(fields)], self.views.name_ref)
+        return paths.words(self.states, [it.kinds for it in self.entangled(fields)])
 
     def entangled(self, fields: list[Field]) -> list[Field]:
         """The fields of which one cannot be told from another by kinds alone, and those that places are about."""
@@ -199,7 +199,6 @@ class Views:
         self.tokens = frozenset(self.table.tokens)
         self.reader = Reader(shapes(), self.table)
         self.said: Description = self.reader.read(held(f'{TOP}/{FILE}') if text is None else text)
-        self.name_ref = self.reader.numbers['NAME_REF']
         self.makers = {it: Maker(self, it) for it in sorted(shapes().by_kind)}
         self.nodes = [self.node(it) for it in self.makers]
 

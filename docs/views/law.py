@@ -1,5 +1,6 @@
-"""crates/rap_fields/specs/Rows.antt and Found.antt: the fields of nodes that are found by their kinds alone, and the
-kinds of all that fields find, for the law that shapes fill them."""
+"""crates/rap_fields/specs/Rows.antt, PlacedRows.antt and Found.antt: the fields of nodes that are found by their kinds
+alone, those that are found by their places too, and the kinds of all that fields find, for the law that shapes fill
+them."""
 import re
 import textwrap
 from typing import Iterable
@@ -9,6 +10,11 @@ from views.fields import Field, Node, Views, shapes
 WIDTH = 120
 # The fields that have a name in Field.antt.
 COMMON = ('attrs', 'doc_comments')
+# Which part of the children a place means, of the first and of the last child of a field.
+CUTS = {('before', 'first'): 'until', ('before', 'last'): 'until_last', ('only_before', 'first'): 'only_until',
+        ('after', 'first'): 'behind', ('past', 'first'): 'past'}
+# The fields whose places are no such parts: behind a child if it stands before another one, and anywhere if not.
+UNPLACED = [('TYPE_ALIAS', 'trailing_where_clause')]
 AMOUNTS = {(1, 1): 'exactly_one', (0, 1): 'at_most_one', (0, None): 'any_number', (1, None): 'at_least_one'}
 
 
@@ -50,6 +56,20 @@ class Writer:
         most = 'None' if field.most is None else f'(Some\0{field.most})'
         return f'between\0{field.fewest}\0{most}\0{self.listed(field.kinds)}'
 
+    def cuts(self, node: Node, field: Field) -> list[str]:
+        """The parts of a node's children in which a field is looked for, each a part of the one before it."""
+        cuts: list[str] = []
+        for place in field.places:
+            mark = node.field(place.field)
+            form = 'leaf_mark' if mark.is_token else 'node_mark'
+            own = CUTS[place.word, mark.how]
+            cuts += [*self.cuts(node, mark), f'{own}\0({form}\0{self.listed(mark.kinds)})']
+        return cuts
+
+    def placed(self, node: Node, field: Field) -> str:
+        cuts = '\0∷\0'.join([*self.cuts(node, field), '[]'])
+        return f'at\0({self.field(field)})\0({cuts})'
+
     def lists_of(self, node: Node) -> list[str]:
         """The lists of kinds that a kind's fields find, or that are left out by name: several at once, and single ones
         in one list."""
@@ -72,11 +92,21 @@ class Writer:
 
     def head(self, what: str, uses: Iterable[str], text: str) -> list[str]:
         prelude = ['ℕ', 'List', '[]', '◌∷◌', *(it for it in ('Some', 'None') if re.search(rf'\b{it}\b', text))]
-        found = [('std.specs.Prelude', prelude), ('rap_base.specs.NodeKind', self.kinds - {'ERROR'}),
-                 *([('rap_base.specs.TokenKind', ['ERROR'])] if 'ERROR' in self.kinds else []),
-                 *([('rap_fields.specs.Field', uses)] if uses else []),
+        tokens = {self.views.names[it] for it in self.views.tokens} | {'ERROR'}
+        places = [it for it in ('PlacedField', 'at', *CUTS.values(), 'leaf_mark', 'node_mark')
+                  if re.search(rf'^[^-].*\b{it}\b', text, re.M)]
+        found = [('std.specs.Prelude', prelude), ('rap_base.specs.NodeKind', self.kinds - tokens),
+                 ('rap_base.specs.TokenKind', self.kinds & tokens), ('rap_fields.specs.Field', uses),
+                 ('rap_fields.specs.Place', places if 'PlacedField' in places else []),
                  ('rap_grammar_shapes.specs.Shapes', self.lists)]
-        return [f'-- {what}', *(f'use Rattle.{module}.{{{", ".join(sorted(names))}}}' for module, names in found)]
+        return [f'-- {what}',
+                *(f'use Rattle.{module}.{{{", ".join(sorted(names))}}}' for module, names in found if names)]
+
+
+def used_words(text: str) -> list[str]:
+    """What definitions use of Field.antt."""
+    words = ['Field', 'between', *COMMON, *AMOUNTS.values()]
+    return [it for it in words if re.search(rf'^[^-].*\b{it}\b', text, re.M)]
 
 
 def rows_lines(views: Views, _said: dict[str, str]) -> list[str]:
@@ -87,10 +117,23 @@ def rows_lines(views: Views, _said: dict[str, str]) -> list[str]:
     said = {kind: ' '.join(it.name for it in fields) for kind, fields in own.items()}
     lines = writer.definitions('fields', 'List Field', rows, said)
     text = '\n'.join(lines)
-    words = ['Field', *(it for it in ('between', *COMMON, *AMOUNTS.values())
-                        if re.search(rf'^[^-].*\b{it}\b', text, re.M))]
     what = 'The fields that are found by the kinds of nodes alone, with how many children a whole node has of each.'
-    return [*writer.head(what, words, text), *lines]
+    return [*writer.head(what, used_words(text), text), *lines]
+
+
+def placed_lines(views: Views, _said: dict[str, str]) -> list[str]:
+    """PlacedRows.antt."""
+    writer = Writer(views)
+    rows, said = {}, {}
+    for node in views.nodes:
+        fields = [it for it in node.nodes if it.places and (node.name, it.name) not in UNPLACED]
+        if fields:
+            rows[node.name] = [writer.placed(node, it) for it in fields]
+            said[node.name] = ' '.join(it.name for it in fields)
+    lines = writer.definitions('placed', 'List PlacedField', rows, said)
+    text = '\n'.join(lines)
+    what = 'The fields that are found by their places too, with how many children of a whole node stand there.'
+    return [*writer.head(what, used_words(text), text), *lines]
 
 
 def found_lines(views: Views, _said: dict[str, str]) -> list[str]:

@@ -18,20 +18,15 @@ def letters(shape: Made) -> Iterator[Letter]:
 
 
 class Kinds:
-    """What a letter may be and what it must be. A float that is taken apart is printed as a name, and as what is behind
-    it in another node."""
+    """What a letter may be and what it must be."""
 
-    def __init__(self, kinds: frozenset[int], name_ref: int) -> None:
-        self.kinds, self.of_float = kinds, name_ref in kinds
+    def __init__(self, kinds: frozenset[int]) -> None:
+        self.kinds = kinds
 
     def must(self, letter: Letter) -> int:
-        if letter.form == 'a_float':
-            return int(self.of_float)
         return int(letter.form != 'any_leaf' and set(letter.kinds) <= self.kinds)
 
     def may(self, letter: Letter) -> int:
-        if letter.form == 'a_float':
-            return int(self.of_float)
         return int(bool(set(letter.kinds) & self.kinds))
 
 
@@ -82,15 +77,13 @@ def behind(states: list[State]) -> list[set[int]]:
 Word = tuple[int, ...]
 
 
-def words(states: list[State], told_apart: list[frozenset[int]], name_ref: int) -> set[Word]:
+def words(states: list[State], told_apart: list[frozenset[int]]) -> set[Word]:
     """The words of a shape, of the kinds that are in one of some sets; of those that are in the same ones the least."""
     known: set[int] = set().union(*told_apart)
     chosen = {it: min(other for other in known if all((other in one) == (it in one) for one in told_apart))
               for it in known}
 
     def choices(letter: Letter) -> set[Optional[int]]:
-        if letter.form == 'a_float':
-            return {chosen.get(name_ref)}
         if letter.form == 'any_leaf':
             return {None}
         return {chosen.get(it) for it in letter.kinds}

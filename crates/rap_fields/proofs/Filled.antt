@@ -101,7 +101,7 @@ is_below a None = true
 is_below None (Some m) = false
 is_below (Some n) (Some m) = nat_lt n (suc m)
 
-abbrev fits : Shape → Field → Bool
+abbrev pub fits : Shape → Field → Bool
 fits s f =
     nat_lt f.fewest (suc (fewest 0 (marked_shape f.kinds s))) && is_below (most 0 (marked_shape f.kinds s)) f.most
 
@@ -121,7 +121,7 @@ below n a None h i = tt
 below n None (Some m) h i = absurd cc
 below n (Some x) (Some m) h i = grind (arith, nat_tests, h, i)
 
-fills : (s : Shape) (f : Field) (cs : List Child) → fits s f ≡ true → Spells s cs → Fills f cs
+pub fills : (s : Shape) (f : Field) (cs : List Child) → fits s f ≡ true → Spells s cs → Fills f cs
 fills s f cs h p =
     let x = marked_shape f.kinds s in
     let b = counted 0 (spells_marked f.kinds p) in

@@ -2,6 +2,8 @@
 use Rattle.std.specs.Prelude.{◌≡◌, ℕ, true, List, ◌∷◌}
 use Rattle.rap_fields.specs.Field.{Field, Fills, nodes_are, together}
 use Rattle.rap_fields.specs.Found.{found}
+use Rattle.rap_fields.specs.Place.{PlacedField, part}
+use Rattle.rap_fields.specs.PlacedRows.{placed}
 use Rattle.rap_fields.specs.Rows.{fields}
 use Rattle.rap_grammar_shapes.specs.Parts.{ShapeSays}
 
@@ -14,6 +16,12 @@ pub data IsOne {A : Type 0} (a : A) : List A → Type 0 where
 abbrev pub FieldsAreFilled : Type 0
 FieldsAreFilled =
     (kind : ℕ) (fs : List Field) (f : Field) → IsOne (kind, fs) fields → IsOne f fs → ShapeSays kind (Fills f)
+
+-- The same of the fields that are found by their places too, each in its part of the children.
+abbrev pub PlacedFieldsAreFilled : Type 0
+PlacedFieldsAreFilled =
+    (kind : ℕ) (ps : List PlacedField) (p : PlacedField) → IsOne (kind, ps) placed → IsOne p ps →
+    ShapeSays kind (λ cs. Fills p.field (part p.cuts cs))
 
 -- Each that is a node is found by a field of the kind, or left out by name.
 abbrev pub NodesAreFound : Type 0

@@ -112,7 +112,7 @@ method_call_expr_fields =
 
 -- attrs doc_comments expr name_ref
 abbrev pub field_expr_fields : List Field
-field_expr_fields = attrs ∷ doc_comments ∷ exactly_one expressions ∷ at_most_one (NAME_REF ∷ []) ∷ []
+field_expr_fields = attrs ∷ doc_comments ∷ exactly_one expressions ∷ exactly_one (NAME_REF ∷ []) ∷ []
 
 -- attrs doc_comments expr
 abbrev pub await_expr_fields : List Field
@@ -164,7 +164,7 @@ underscore_expr_fields = attrs ∷ doc_comments ∷ []
 
 -- attrs doc_comments expr
 abbrev pub paren_expr_fields : List Field
-paren_expr_fields = attrs ∷ doc_comments ∷ any_number expressions ∷ []
+paren_expr_fields = attrs ∷ doc_comments ∷ exactly_one expressions ∷ []
 
 -- attrs doc_comments fields
 abbrev pub tuple_expr_fields : List Field
@@ -488,7 +488,7 @@ cfg_pred_pat_fields = exactly_one (CFG_ATOM ∷ CFG_COMPOSITE ∷ []) ∷ []
 
 -- literal
 abbrev pub literal_pat_fields : List Field
-literal_pat_fields = at_most_one (LITERAL ∷ []) ∷ []
+literal_pat_fields = exactly_one (LITERAL ∷ []) ∷ []
 
 -- path fields
 abbrev pub tuple_struct_pat_fields : List Field
@@ -524,7 +524,7 @@ not_null_fields = exactly_one patterns ∷ []
 
 -- pat
 abbrev pub paren_pat_fields : List Field
-paren_pat_fields = any_number patterns ∷ []
+paren_pat_fields = exactly_one patterns ∷ []
 
 -- fields
 abbrev pub tuple_pat_fields : List Field
@@ -548,7 +548,7 @@ const_block_pat_fields = exactly_one (BLOCK_EXPR ∷ []) ∷ []
 
 -- ty
 abbrev pub paren_type_fields : List Field
-paren_type_fields = at_least_one types ∷ []
+paren_type_fields = exactly_one types ∷ []
 
 -- fields
 abbrev pub tuple_type_fields : List Field
@@ -626,7 +626,7 @@ lifetime_arg_fields = exactly_one (LIFETIME ∷ []) ∷ []
 
 -- expr
 abbrev pub const_arg_fields : List Field
-const_arg_fields = at_most_one expressions ∷ []
+const_arg_fields = exactly_one expressions ∷ []
 
 -- name_ref generic_arg_list return_type_syntax parenthesized_arg_list ret_type type_bound_list ty const_arg
 abbrev pub assoc_type_arg_fields : List Field
