@@ -131,7 +131,8 @@ struct rap_part {
  * out of memory before it finds another fault, and then returns RAP_NO_MEMORY in place of it. So may rap_prefix and
  * rap_prefix_nodes in place of RAP_TOO_MANY_TOKENS; rap_reparse and rap_reparse_nodes in place of RAP_NO_BRACE and
  * RAP_TOO_MANY_TOKENS; rap_parse and rap_parse_prefix in place of RAP_NO_RECORD and RAP_TOO_MANY_TOKENS; rap_parse_node
- * in place of these two and RAP_NO_BRACE; rap_weave in place of RAP_NO_STEPS; and rap_script in place of RAP_NO_SCRIPT.
+ * in place of these two and RAP_NO_BRACE; rap_weave in place of RAP_NO_STEPS; rap_script in place of RAP_NO_SCRIPT;
+ * rap_string_value in place of RAP_NO_LITERAL; and rap_number_value in place of RAP_NO_NUMBER.
  * No other call returns it where another of these applies.
  * The text of a status is written by rap_status_text.
  */
@@ -148,7 +149,9 @@ enum rap_status {
     RAP_NO_BRACE = 9,        /* the node must begin with a `{`, and the text or the records do not */
     RAP_NO_RECORD = 10,      /* one of the records is no token's */
     RAP_NO_STEPS = 11,       /* the steps that were given are not those of one tree over the text */
-    RAP_NO_SCRIPT = 12       /* the text is no script source */
+    RAP_NO_SCRIPT = 12,      /* the text is no script source */
+    RAP_NO_LITERAL = 13,     /* the text is no literal of the kind, or the lexer reports something about it */
+    RAP_NO_NUMBER = 14       /* the literal's digits are not all of its radix, or come to 2^128 or more */
 };
 
 /* The result of a call.
@@ -451,6 +454,54 @@ struct rap_answer rap_shebang(const uint8_t *text, size_t text_length);
  */
 struct rap_answer rap_blank_lines(const uint8_t *text, size_t text_length);
 
+/* What a string stands for.
+ * `status`: RAP_OK; RAP_NOT_UTF8; RAP_NO_LITERAL; or RAP_NO_MEMORY.
+ * `bytes`: how many bytes it stands for; 0 if the status is not RAP_OK.
+ */
+struct rap_string {
+    uint32_t status;
+    size_t bytes;
+};
+
+/* The bytes that a string stands for, as `"a\n"` or `r#"a"#`.
+ * `text`, `text_length`: the token, with its prefix, its quotes and hashes, and its suffix, as the edition 2024 has it:
+ * in 2015 and 2018 the text `c"a"` is two tokens.
+ * `kind`: RAP_KIND_STRING, whose bytes are UTF-8; RAP_KIND_BYTE_STRING; or RAP_KIND_C_STRING, whose bytes have no 0 at
+ * the end. Of any other kind the status is RAP_NO_LITERAL.
+ * `value`, `value_room`: the caller's array. As many bytes as fit are written, and none if the status is not RAP_OK. No
+ * string stands for more bytes than its text has.
+ * A carriage return stands for itself. The rules are those of
+ * https://doc.rust-lang.org/reference/tokens.html#character-and-string-literals
+ */
+struct rap_string rap_string_value(const uint8_t *text, size_t text_length, uint32_t kind,
+                                   uint8_t *value, size_t value_room);
+
+/* What another literal stands for.
+ * `status`: RAP_OK; RAP_NOT_UTF8; RAP_NO_LITERAL; RAP_NO_NUMBER; or RAP_NO_MEMORY. If it is neither RAP_OK nor, of an
+ * integer, RAP_NO_NUMBER, the other numbers are 0.
+ * `radix`: of an integer 2, 8, 10 or 16; of a float 10; else 0.
+ * `low`, `high`: an integer is `high` times 2^64, and `low`; both are 0 if the status is RAP_NO_NUMBER. Of a character
+ * `low` is its number in Unicode, and of a byte the byte.
+ * `real`: a float, rounded once; else 0.
+ * `suffix`: the byte of the text at which the suffix begins; the text's length, if there is none.
+ */
+struct rap_number {
+    uint32_t status;
+    uint32_t radix;
+    uint64_t low;
+    uint64_t high;
+    double real;
+    size_t suffix;
+};
+
+/* The value of an integer, a float, a character or a byte, as `0xff_u8`, `1.5e3`, `'a'` or `b'\n'`.
+ * `text`, `text_length`: the token, with its prefix, its quotes and its suffix.
+ * `kind`: RAP_KIND_INT_NUMBER, RAP_KIND_FLOAT_NUMBER, RAP_KIND_CHAR or RAP_KIND_BYTE. Of any other kind the status is
+ * RAP_NO_LITERAL.
+ * The suffix may be any identifier: `1f32` is an integer with the suffix `f32`.
+ */
+struct rap_number rap_number_value(const uint8_t *text, size_t text_length, uint32_t kind);
+
 /* Writes the name of a kind, in ASCII and with no 0 at the end, as many bytes as fit, and returns the length of the
  * name in bytes: 0 if the number is no kind's. No name has more than 32 bytes.
  */
@@ -460,7 +511,7 @@ size_t rap_kind_name(uint32_t kind, uint8_t *name, size_t name_room);
 uint32_t rap_kind_of_name(const uint8_t *name, size_t name_length);
 
 /* Writes the text of a status, in ASCII and with no 0 at the end, as many bytes as fit, and returns the length of the
- * text in bytes: 0 if the number is no status. No text has more than 34 bytes.
+ * text in bytes: 0 if the number is no status. No text has more than 36 bytes.
  */
 size_t rap_status_text(uint32_t status, uint8_t *text, size_t text_room);
 

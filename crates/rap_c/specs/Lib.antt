@@ -7,6 +7,7 @@ pub mod Given
 pub mod Item
 pub mod Lays
 pub mod Listed
+pub mod Literal
 pub mod Nodes
 pub mod NodesAnswer
 pub mod Numbers

@@ -17,6 +17,8 @@ status_texts =
     codes "no token's record" ∷
     codes "no steps of one tree over the text" ∷
     codes "no script source" ∷
+    codes "no literal of the kind" ∷
+    codes "no number of the radix, or too large" ∷
     []
 
 -- the text of a status, and no text where the number is none's

@@ -23,6 +23,8 @@ fn text_of_status(status: u32) -> &'static str
         10 => "no token's record",
         11 => "no steps of one tree over the text",
         12 => "no script source",
+        13 => "no literal of the kind",
+        14 => "no number of the radix, or too large",
         _ => "",
     }
 }
