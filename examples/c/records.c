@@ -214,11 +214,11 @@ static void test_names(void) {
     expect(rap_kind_of_name(bytes, 0) == RAP_NO_KIND, "a kind without a name");
     expect(rap_kind_of_name((const uint8_t *)"Ident", 5) == RAP_NO_KIND, "a name of no kind");
     expect(rap_kind_of_name((const uint8_t *)"IDENT", 5) == RAP_IDENT, "an identifier's name");
-    for (uint32_t status = RAP_OK; status <= RAP_NO_SCRIPT; status++) {
+    for (uint32_t status = RAP_OK; status <= RAP_NO_NUMBER; status++) {
         size_t length = rap_status_text(status, bytes, sizeof bytes);
-        expect(length > 0 && length <= 34, "a status's text");
+        expect(length > 0 && length <= 36, "a status's text");
     }
-    expect(rap_status_text(RAP_NO_SCRIPT + 1, bytes, sizeof bytes) == 0, "the text of no status");
+    expect(rap_status_text(RAP_NO_NUMBER + 1, bytes, sizeof bytes) == 0, "the text of no status");
     memset(bytes, '?', sizeof bytes);
     expect(rap_status_text(RAP_NO_MEMORY, bytes, 3) == 13 && !memcmp(bytes, "out?", 4), "a text with too little room");
     expect(rap_version() == RAP_VERSION, "the version");

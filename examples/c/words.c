@@ -151,6 +151,28 @@ static void test_ends(void) {
     expect(rap_blank_lines((const uint8_t *)"\xff", 1).status == RAP_NOT_UTF8, "blank lines of no text");
 }
 
+static int is_number(const char *text, const char *name, struct rap_number want) {
+    struct rap_number n = rap_number_value((const uint8_t *)text, strlen(text), kind(name));
+    return n.status == want.status && n.radix == want.radix && n.low == want.low && n.high == want.high
+        && n.real == want.real && n.suffix == want.suffix;
+}
+
+static void test_values(void) {
+    uint8_t value[4] = "....";
+    const char *text = "\"a\\u{e9}\"";
+    struct rap_string s = rap_string_value((const uint8_t *)text, strlen(text), RAP_KIND_STRING, value, 4);
+    expect(s.status == RAP_OK && s.bytes == 3 && memcmp(value, "a\xc3\xa9.", 4) == 0, "a string");
+    s = rap_string_value((const uint8_t *)text, strlen(text), RAP_KIND_BYTE_STRING, value, 4);
+    expect(s.status == RAP_NO_LITERAL && s.bytes == 0 && value[3] == '.', "a string that is no byte string");
+    expect(is_number("0xff_u8", "INT_NUMBER", (struct rap_number){0, 16, 255, 0, 0, 5}), "an integer");
+    expect(is_number("0x1_0000_0000_0000_0002", "INT_NUMBER", (struct rap_number){0, 16, 2, 1, 0, 23}), "a large one");
+    expect(is_number("0b12u8", "INT_NUMBER", (struct rap_number){RAP_NO_NUMBER, 2, 0, 0, 0, 4}), "a digit too large");
+    expect(is_number("1.5e3f32", "FLOAT_NUMBER", (struct rap_number){0, 10, 0, 0, 1500, 5}), "a float");
+    expect(is_number("'\\n'", "CHAR", (struct rap_number){0, 0, 10, 0, 0, 4}), "a character");
+    expect(is_number("b'\\xff'", "BYTE", (struct rap_number){0, 0, 255, 0, 0, 7}), "a byte");
+    expect(is_number("'a'", "BYTE", (struct rap_number){RAP_NO_LITERAL, 0, 0, 0, 0, 0}), "a character that is no byte");
+}
+
 static void compare_file(const char *path) {
     FILE *file = fopen(path, "rb");
     if (!file) exit(2);
@@ -167,6 +189,7 @@ int main(int count, char **words) {
     test_long_tokens();
     test_scripts();
     test_ends();
+    test_values();
     for (int i = 1; i < count; i++) compare_file(words[i]);
     return wrong;
 }

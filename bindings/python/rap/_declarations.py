@@ -39,6 +39,18 @@ struct rap_nodes_answer {
     size_t message_bytes;
     size_t used;
 };
+struct rap_string {
+    uint32_t status;
+    size_t bytes;
+};
+struct rap_number {
+    uint32_t status;
+    uint32_t radix;
+    uint64_t low;
+    uint64_t high;
+    double real;
+    size_t suffix;
+};
 enum rap_what {
     RAP_ENTER = 0,
     RAP_EXIT = 1,
@@ -59,7 +71,9 @@ enum rap_status {
     RAP_NO_BRACE = 9,
     RAP_NO_RECORD = 10,
     RAP_NO_STEPS = 11,
-    RAP_NO_SCRIPT = 12
+    RAP_NO_SCRIPT = 12,
+    RAP_NO_LITERAL = 13,
+    RAP_NO_NUMBER = 14
 };
 struct rap_nodes_answer rap_nodes(const uint8_t *text, size_t text_length, uint32_t edition, uint32_t entry,
                                   struct rap_element *elements, size_t element_room,
@@ -67,6 +81,9 @@ struct rap_nodes_answer rap_nodes(const uint8_t *text, size_t text_length, uint3
                                   uint8_t *message_bytes, size_t byte_room);
 struct rap_answer rap_tokens(const uint8_t *text, size_t text_length, uint32_t edition,
                              struct rap_step *steps, size_t step_room, uint8_t *messages, size_t message_room);
+struct rap_string rap_string_value(const uint8_t *text, size_t text_length, uint32_t kind,
+                                   uint8_t *value, size_t value_room);
+struct rap_number rap_number_value(const uint8_t *text, size_t text_length, uint32_t kind);
 size_t rap_status_text(uint32_t status, uint8_t *text, size_t text_room);
 uint32_t rap_version(void);
 '''

@@ -431,11 +431,11 @@ class BlockExpr(ElseBranch, Expr):
     label: _Child[Label] = _Child((Kind.LABEL,))
     try_block_modifier: _Child[TryBlockModifier] = _Child((Kind.TRY_BLOCK_MODIFIER,))
     stmt_list: _Child[StmtList] = _Child((Kind.STMT_LIST,))
-    gen_token: _Leaf = _Leaf((Kind.GEN_KW,))
-    move_token: _Leaf = _Leaf((Kind.MOVE_KW,))
-    async_token: _Leaf = _Leaf((Kind.ASYNC_KW,))
     unsafe_token: _Leaf = _Leaf((Kind.UNSAFE_KW,))
     const_token: _Leaf = _Leaf((Kind.CONST_KW,))
+    async_token: _Leaf = _Leaf((Kind.ASYNC_KW,))
+    gen_token: _Leaf = _Leaf((Kind.GEN_KW,))
+    move_token: _Leaf = _Leaf((Kind.MOVE_KW,))
 
 
 class Label(Node):
@@ -556,7 +556,7 @@ class MethodCallExpr(Expr):
 
 
 class FieldExpr(Expr):
-    """`FIELD_EXPR`: a field by its name or its number; `x.1.2`, where a float is taken apart, is two."""
+    """`FIELD_EXPR`: a field by its name or its number."""
 
     __slots__ = ()
     _fields = ('attrs', 'doc_comments', 'expr', 'name_ref')
@@ -1262,11 +1262,8 @@ class ExternBlock(Item):
     extern_item_list: _Child[ExternItemList] = _Child((Kind.EXTERN_ITEM_LIST,))
     const_token: _Leaf = _Leaf((Kind.CONST_KW,))
     async_token: _Leaf = _Leaf((Kind.ASYNC_KW,))
-    gen_token: _Leaf = _Leaf((Kind.GEN_KW,))
     unsafe_token: _Leaf = _Leaf((Kind.UNSAFE_KW,))
     safe_token: _Leaf = _Leaf((Kind.SAFE_KW,))
-    auto_token: _Leaf = _Leaf((Kind.AUTO_KW,))
-    default_token: _Leaf = _Leaf((Kind.DEFAULT_KW,))
 
 
 class ExternItemList(Node):
@@ -1323,10 +1320,8 @@ class TypeAlias(AssocItem, ExternItem, Item):
     ty: _Child[Type] = _Child(_TYPE)
     const_token: _Leaf = _Leaf((Kind.CONST_KW,))
     async_token: _Leaf = _Leaf((Kind.ASYNC_KW,))
-    gen_token: _Leaf = _Leaf((Kind.GEN_KW,))
     unsafe_token: _Leaf = _Leaf((Kind.UNSAFE_KW,))
     safe_token: _Leaf = _Leaf((Kind.SAFE_KW,))
-    auto_token: _Leaf = _Leaf((Kind.AUTO_KW,))
     default_token: _Leaf = _Leaf((Kind.DEFAULT_KW,))
     type_token: _Leaf = _Leaf((Kind.TYPE_KW,))
     colon_token: _Leaf = _Leaf((Kind.COLON,))
@@ -1389,7 +1384,6 @@ class Fn(AssocItem, ExternItem, Item):
     gen_token: _Leaf = _Leaf((Kind.GEN_KW,))
     unsafe_token: _Leaf = _Leaf((Kind.UNSAFE_KW,))
     safe_token: _Leaf = _Leaf((Kind.SAFE_KW,))
-    auto_token: _Leaf = _Leaf((Kind.AUTO_KW,))
     default_token: _Leaf = _Leaf((Kind.DEFAULT_KW,))
     fn_token: _Leaf = _Leaf((Kind.FN_KW,))
     semicolon_token: _Leaf = _Leaf((Kind.SEMICOLON,))
@@ -1552,10 +1546,8 @@ class Const(AssocItem, Item):
     where_clause: _Child[WhereClause] = _Child((Kind.WHERE_CLAUSE,))
     const_token: _Leaf = _Leaf((Kind.CONST_KW,))
     async_token: _Leaf = _Leaf((Kind.ASYNC_KW,))
-    gen_token: _Leaf = _Leaf((Kind.GEN_KW,))
     unsafe_token: _Leaf = _Leaf((Kind.UNSAFE_KW,))
     safe_token: _Leaf = _Leaf((Kind.SAFE_KW,))
-    auto_token: _Leaf = _Leaf((Kind.AUTO_KW,))
     default_token: _Leaf = _Leaf((Kind.DEFAULT_KW,))
     type_token: _Leaf = _Leaf((Kind.TYPE_KW,))
     mut_token: _Leaf = _Leaf((Kind.MUT_KW,))
@@ -1583,11 +1575,8 @@ class Static(ExternItem, Item):
     body: _Child[Expr] = _Child(_EXPR)
     const_token: _Leaf = _Leaf((Kind.CONST_KW,))
     async_token: _Leaf = _Leaf((Kind.ASYNC_KW,))
-    gen_token: _Leaf = _Leaf((Kind.GEN_KW,))
     unsafe_token: _Leaf = _Leaf((Kind.UNSAFE_KW,))
     safe_token: _Leaf = _Leaf((Kind.SAFE_KW,))
-    auto_token: _Leaf = _Leaf((Kind.AUTO_KW,))
-    default_token: _Leaf = _Leaf((Kind.DEFAULT_KW,))
     static_token: _Leaf = _Leaf((Kind.STATIC_KW,))
     mut_token: _Leaf = _Leaf((Kind.MUT_KW,))
     colon_token: _Leaf = _Leaf((Kind.COLON,))
@@ -1615,11 +1604,9 @@ class Trait(Item):
     assoc_item_list: _Child[AssocItemList] = _Child((Kind.ASSOC_ITEM_LIST,))
     const_token: _Leaf = _Leaf((Kind.CONST_KW,))
     async_token: _Leaf = _Leaf((Kind.ASYNC_KW,))
-    gen_token: _Leaf = _Leaf((Kind.GEN_KW,))
     unsafe_token: _Leaf = _Leaf((Kind.UNSAFE_KW,))
     safe_token: _Leaf = _Leaf((Kind.SAFE_KW,))
     auto_token: _Leaf = _Leaf((Kind.AUTO_KW,))
-    default_token: _Leaf = _Leaf((Kind.DEFAULT_KW,))
     trait_token: _Leaf = _Leaf((Kind.TRAIT_KW,))
     colon_token: _Leaf = _Leaf((Kind.COLON,))
     eq_token: _Leaf = _Leaf((Kind.EQ,))
@@ -1646,10 +1633,8 @@ class Impl(Item):
     assoc_item_list: _Child[AssocItemList] = _Child((Kind.ASSOC_ITEM_LIST,))
     const_token: _Leaf = _Leaf((Kind.CONST_KW,))
     async_token: _Leaf = _Leaf((Kind.ASYNC_KW,))
-    gen_token: _Leaf = _Leaf((Kind.GEN_KW,))
     unsafe_token: _Leaf = _Leaf((Kind.UNSAFE_KW,))
     safe_token: _Leaf = _Leaf((Kind.SAFE_KW,))
-    auto_token: _Leaf = _Leaf((Kind.AUTO_KW,))
     default_token: _Leaf = _Leaf((Kind.DEFAULT_KW,))
     impl_token: _Leaf = _Leaf((Kind.IMPL_KW,))
     excl_token: _Leaf = _Leaf((Kind.BANG,))
@@ -2350,6 +2335,8 @@ class DocComment(Node):
     __slots__ = ()
     _fields = ()
     __match_args__ = ()
+    outer_doc_comment_token: _Leaf = _Leaf((Kind.OUTER_DOC_COMMENT,))
+    inner_doc_comment_token: _Leaf = _Leaf((Kind.INNER_DOC_COMMENT,))
 
 
 class Attr(Node):
@@ -2412,6 +2399,8 @@ class CfgAtom(CfgPredicate):
     ident_token: _Leaf = _Leaf((Kind.IDENT,))
     eq_token: _Leaf = _Leaf((Kind.EQ,))
     string_token: _Leaf = _Leaf((Kind.STRING,))
+    true_token: _Leaf = _Leaf((Kind.TRUE_KW,))
+    false_token: _Leaf = _Leaf((Kind.FALSE_KW,))
 
 
 class CfgComposite(CfgPredicate):

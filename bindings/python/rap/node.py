@@ -7,6 +7,7 @@ from typing import TYPE_CHECKING
 
 import numpy as np
 
+from rap._values import suffix_of, value_of
 from rap.kinds import KINDS, Kind
 
 if TYPE_CHECKING:
@@ -153,6 +154,19 @@ class Token(Element):
     """A token: a leaf of a tree, or a token of a text that was not parsed."""
 
     __slots__ = ()
+
+    @property
+    def value(self) -> str | bytes | int | float | bool | None:
+        """What a literal stands for: a `str` of a string or a character, `bytes` of a byte string or a C string, which
+        has no NUL at its end, an `int` of an integer or a byte, a `float`, or a `bool`. None of any other token, of a
+        literal about which the lexer reports something, and of an integer that is 2^128 or more or has a digit that is
+        none of its radix."""
+        return value_of(self.kind, self.text.encode())
+
+    @property
+    def suffix(self) -> str | None:
+        """What follows the digits of a number, if anything does, as `u8` in `0xff_u8`. None of any other token."""
+        return suffix_of(self.kind, self.text.encode())
 
     def __repr__(self) -> str:
         text = self.text

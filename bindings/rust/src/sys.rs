@@ -6,11 +6,13 @@
 //! - `room` the rooms that a thread keeps,
 //! - `words` the reader of a tree in words,
 //! - `nodes` the calls for trees in one list,
+//! - `literals` the calls for values of literals,
 //! - `stack` the stacks on which calls parse,
 //! - `status` the statuses, and `processor` what the library needs of the processor.
 #![allow(unsafe_code)]
 
 mod declarations;
+mod literals;
 mod nodes;
 mod processor;
 mod room;
@@ -19,6 +21,7 @@ mod status;
 mod words;
 
 pub use declarations::*;
+pub use literals::{number_value, string_value};
 pub use nodes::{Nodes, keep_elements, lexer_places, nodes};
 pub(crate) use status::check_status;
 pub(crate) use words::Woven;

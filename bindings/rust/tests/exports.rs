@@ -1,7 +1,7 @@
 //! The exports as C calls them, with results worked out by hand.
 use ra_ap_parser::SyntaxKind::{BIN_EXPR, EOF, ERROR, INT_NUMBER, LITERAL, PLUS, WHITESPACE};
 use ra_ap_parser::sys::{self, Answer, ENTER, EXIT, LONG, MESSAGE, NO_KIND, NO_SCRIPT, Part, Step, TOKEN, VERSION};
-use ra_ap_parser::sys::{Element, Message, NO_PARENT, NodesAnswer};
+use ra_ap_parser::sys::{Element, Message, NO_LITERAL, NO_NUMBER, NO_PARENT, NodesAnswer, NumberValue};
 
 /// The contents of an array that no call has written to.
 const BLANK: Step = Step { what: 99, kind: 99, at: 99, start: 99, end: 99 };
@@ -235,6 +235,48 @@ fn finds_ends_of_what_may_stand_before_code() {
 }
 
 #[test]
+fn gives_what_strings_stand_for() {
+    let string = |kind, text: &[u8], room: usize| {
+        let mut value = vec![b'.'; room];
+        let answer = unsafe { sys::rap_string_value(text.as_ptr(), text.len(), kind, value.as_mut_ptr(), room) };
+        (answer.status, answer.bytes, value)
+    };
+    let [text, bytes, for_c] = [number("STRING"), number("BYTE_STRING"), number("C_STRING")];
+    assert_eq!(string(text, br#""a\n\u{e9}"x"#, 5), (0, 4, b"a\n\xc3\xa9.".to_vec()));
+    assert_eq!(string(text, br##"r#"\n"#"##, 2), (0, 2, b"\\n".to_vec()));
+    assert_eq!(string(text, b"\"abc\"", 2), (0, 3, b"ab".to_vec()));
+    assert_eq!(string(bytes, br#"b"\xff""#, 2), (0, 1, b"\xff.".to_vec()));
+    assert_eq!(string(for_c, br#"c"\xffa""#, 2), (0, 2, b"\xffa".to_vec()));
+    assert_eq!(string(bytes, b"\"a\"", 2), (NO_LITERAL, 0, b"..".to_vec()));
+    assert_eq!(string(text, b"\"\\q\"", 2), (NO_LITERAL, 0, b"..".to_vec()));
+    assert_eq!(string(text, b"\"a\" ", 2), (NO_LITERAL, 0, b"..".to_vec()));
+    assert_eq!(string(number("CHAR"), b"'a'", 2), (NO_LITERAL, 0, b"..".to_vec()));
+    assert_eq!(string(text, b"\"\xff\"", 2), (4, 0, b"..".to_vec()));
+}
+
+#[test]
+fn gives_what_numbers_stand_for() {
+    let given = |kind, text: &[u8]| unsafe { sys::rap_number_value(text.as_ptr(), text.len(), kind) };
+    let value = |radix, low, high, suffix| NumberValue { status: 0, radix, low, high, real: 0.0, suffix };
+    let none = |status| NumberValue { status, ..NumberValue::default() };
+    let [int, float] = [number("INT_NUMBER"), number("FLOAT_NUMBER")];
+    assert_eq!(given(int, b"1_000"), value(10, 1000, 0, 5));
+    assert_eq!(given(int, b"0xff_u8"), value(16, 255, 0, 5));
+    assert_eq!(given(int, b"0x1_0000_0000_0000_0002"), value(16, 2, 1, 23));
+    assert_eq!(given(int, b"0b12u8"), NumberValue { status: NO_NUMBER, ..value(2, 0, 0, 4) });
+    assert_eq!(given(int, b"0b"), none(NO_LITERAL));
+    assert_eq!(given(int, b"1.5"), none(NO_LITERAL));
+    assert_eq!(given(float, b"1_5.2_5e-1f32"), NumberValue { real: 1.525, ..value(10, 0, 0, 10) });
+    assert_eq!(given(float, b"2."), NumberValue { real: 2.0, ..value(10, 0, 0, 2) });
+    assert_eq!(given(float, b"1e"), none(NO_LITERAL));
+    assert_eq!(given(number("CHAR"), "'é'x".as_bytes()), value(0, 0xe9, 0, 4));
+    assert_eq!(given(number("BYTE"), br"b'\xff'"), value(0, 255, 0, 7));
+    assert_eq!(given(number("BYTE"), b"'a'"), none(NO_LITERAL));
+    assert_eq!(given(number("STRING"), b"\"a\""), none(NO_LITERAL));
+    assert_eq!(given(int, b"\xff"), none(4));
+}
+
+#[test]
 fn lists_tokens_and_the_messages_of_the_lexer() {
     let want =
         vec![token("IDENT", 0, 2), token("WHITESPACE", 2, 3), token("INT_NUMBER", 3, 5), message(3, 0, 44), BLANK];
@@ -267,7 +309,8 @@ fn says_what_statuses_mean() {
     assert_eq!(text_of(0, 4), (2, b"ok..".to_vec()));
     assert_eq!(text_of(sys::NO_MEMORY, 3), (13, b"out".to_vec()));
     assert_eq!(text_of(NO_SCRIPT, 16), (16, b"no script source".to_vec()));
-    assert_eq!(text_of(NO_SCRIPT + 1, 1), (0, b".".to_vec()));
+    assert_eq!(text_of(NO_NUMBER, 36).1, b"no number of the radix, or too large".to_vec());
+    assert_eq!(text_of(NO_NUMBER + 1, 1), (0, b".".to_vec()));
 }
 
 #[test]

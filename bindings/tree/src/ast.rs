@@ -40,6 +40,7 @@ mod names;
 mod operators;
 mod support;
 mod tokens;
+mod values;
 
 pub use expressions::{ArrayExprKind, BlockModifier, FieldKind, LiteralKind};
 pub use generated::*;
@@ -49,6 +50,7 @@ pub use operators::{ArithOp, BinaryOp, CmpOp, LogicOp, Ordering, RangeOp, UnaryO
 pub use tokens::{
     AstToken, Byte, ByteString, CString, Char, Comment, FloatNumber, Ident, IntNumber, String, Whitespace,
 };
+pub use values::Radix;
 
 /// A view of a node: one of a kind, or of one of several kinds.
 ///

@@ -94,6 +94,26 @@ pub struct NodesAnswer {
     pub used: usize,
 }
 
+/// What a string stands for, as `struct rap_string`.
+#[repr(C)]
+#[derive(Clone, Copy, Debug, Default, PartialEq, Eq)]
+pub struct StringValue {
+    pub status: u32,
+    pub bytes: usize,
+}
+
+/// What another literal stands for, as `struct rap_number`.
+#[repr(C)]
+#[derive(Clone, Copy, Debug, Default, PartialEq)]
+pub struct NumberValue {
+    pub status: u32,
+    pub radix: u32,
+    pub low: u64,
+    pub high: u64,
+    pub real: f64,
+    pub suffix: usize,
+}
+
 pub const ENTER: u32 = 0;
 pub const EXIT: u32 = 1;
 pub const TOKEN: u32 = 2;
@@ -110,6 +130,8 @@ pub const NO_BRACE: u32 = 9;
 pub const NO_RECORD: u32 = 10;
 pub const NO_STEPS: u32 = 11;
 pub const NO_SCRIPT: u32 = 12;
+pub const NO_LITERAL: u32 = 13;
+pub const NO_NUMBER: u32 = 14;
 
 /// What a token's word holds in the place of its length where a second word has it, as `RAP_LONG`.
 pub const LONG: u32 = 8191;
@@ -259,6 +281,16 @@ unsafe extern "C" {
     pub fn rap_shebang(text: *const u8, text_length: usize) -> Answer;
 
     pub fn rap_blank_lines(text: *const u8, text_length: usize) -> Answer;
+
+    pub fn rap_string_value(
+        text: *const u8,
+        text_length: usize,
+        kind: u32,
+        value: *mut u8,
+        value_room: usize,
+    ) -> StringValue;
+
+    pub fn rap_number_value(text: *const u8, text_length: usize, kind: u32) -> NumberValue;
 
     pub fn rap_kind_name(kind: u32, name: *mut u8, name_room: usize) -> usize;
 

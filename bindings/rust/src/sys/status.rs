@@ -2,7 +2,7 @@
 use super::{NO_MEMORY, OK, TEXT_TOO_LONG, TOO_MANY_TOKENS};
 
 /// The names of the statuses by their numbers, as `enum rap_status` has them.
-const NAMES: [&str; 13] = [
+const NAMES: [&str; 15] = [
     "RAP_OK",
     "RAP_NO_TREE",
     "RAP_NO_EDITION",
@@ -16,6 +16,8 @@ const NAMES: [&str; 13] = [
     "RAP_NO_RECORD",
     "RAP_NO_STEPS",
     "RAP_NO_SCRIPT",
+    "RAP_NO_LITERAL",
+    "RAP_NO_NUMBER",
 ];
 
 /// Returns for `RAP_OK`, and for the statuses that the caller tells apart itself.
@@ -71,10 +73,12 @@ mod tests {
             (10, "RAP_NO_RECORD"),
             (11, "RAP_NO_STEPS"),
             (12, "RAP_NO_SCRIPT"),
+            (13, "RAP_NO_LITERAL"),
+            (14, "RAP_NO_NUMBER"),
         ] {
             assert_eq!(refusal(status, &[]), cannot_come(name));
         }
-        assert_eq!(refusal(13, &[NO_TREE]).as_deref(), Some("the library returned 13, which is no status"));
+        assert_eq!(refusal(15, &[NO_TREE]).as_deref(), Some("the library returned 15, which is no status"));
     }
 
     #[test]

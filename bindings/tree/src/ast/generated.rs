@@ -283,8 +283,8 @@ node! { StmtList STMT_LIST "the statements of a block":
 
 node! { BlockExpr BLOCK_EXPR "a block, perhaps with a label, or with words as `unsafe` or `async`":
     maybe label(Label first) maybe try_block_modifier(TryBlockModifier first) one stmt_list(StmtList first)
-    maybe gen_token[GEN_KW] maybe move_token[MOVE_KW] maybe async_token[ASYNC_KW] maybe unsafe_token[UNSAFE_KW]
-    maybe const_token[CONST_KW]
+    maybe unsafe_token[UNSAFE_KW] maybe const_token[CONST_KW] maybe async_token[ASYNC_KW] maybe gen_token[GEN_KW]
+    maybe move_token[MOVE_KW]
 }
 
 node! { Label LABEL "the label of a block or a loop":
@@ -311,7 +311,7 @@ node! { RefExpr REF_EXPR "a reference, or a raw pointer":
 }
 
 node! { PrefixExpr PREFIX_EXPR "a sign before an expression":
-    maybe expr(Expr first) maybe op_token[STAR BANG MINUS]
+    maybe expr(Expr first) one op_token[STAR BANG MINUS]
 }
 
 node! { CallExpr CALL_EXPR "a call":
@@ -328,8 +328,8 @@ node! { MethodCallExpr METHOD_CALL_EXPR "a call of a method":
     maybe dot_token[DOT]
 }
 
-node! { FieldExpr FIELD_EXPR "a field by its name or its number; `x.1.2`, where a float is taken apart, is two":
-    one expr(Expr first) maybe name_ref(NameRef first) maybe dot_token[DOT]
+node! { FieldExpr FIELD_EXPR "a field by its name or its number":
+    one expr(Expr first) one name_ref(NameRef first) maybe dot_token[DOT]
 }
 
 node! { AwaitExpr AWAIT_EXPR "a future that is awaited":
@@ -374,7 +374,7 @@ node! { PathExpr PATH_EXPR "a path as an expression":
 }
 
 node! { Literal LITERAL "a literal":
-    maybe token[FALSE_KW TRUE_KW INT_NUMBER FLOAT_NUMBER CHAR BYTE STRING BYTE_STRING C_STRING]
+    one token[FALSE_KW TRUE_KW INT_NUMBER FLOAT_NUMBER CHAR BYTE STRING BYTE_STRING C_STRING]
 }
 
 node! { UnderscoreExpr UNDERSCORE_EXPR "`_` as an expression":
@@ -382,7 +382,7 @@ node! { UnderscoreExpr UNDERSCORE_EXPR "`_` as an expression":
 }
 
 node! { ParenExpr PAREN_EXPR "an expression in brackets":
-    maybe expr(Expr first) one l_paren_token[L_PAREN] one r_paren_token[R_PAREN]
+    one expr(Expr first) one l_paren_token[L_PAREN] one r_paren_token[R_PAREN]
 }
 
 node! { TupleExpr TUPLE_EXPR "a tuple":
@@ -571,8 +571,7 @@ node! { ExternCrate EXTERN_CRATE "a crate that is named":
 
 node! { ExternBlock EXTERN_BLOCK "a block of items that are defined elsewhere":
     maybe impl_restriction(ImplRestriction first) one abi(Abi first) one extern_item_list(ExternItemList first)
-    maybe const_token[CONST_KW] maybe async_token[ASYNC_KW] maybe gen_token[GEN_KW] maybe unsafe_token[UNSAFE_KW]
-    maybe safe_token[SAFE_KW] maybe auto_token[AUTO_KW] maybe default_token[DEFAULT_KW]
+    maybe const_token[CONST_KW] maybe async_token[ASYNC_KW] maybe unsafe_token[UNSAFE_KW] maybe safe_token[SAFE_KW]
 }
 
 node! { ExternItemList EXTERN_ITEM_LIST "the items of such a block":
@@ -590,9 +589,8 @@ node! { MutRestriction MUT_RESTRICTION "where a field may be changed":
 node! { TypeAlias TYPE_ALIAS "a name for a type, or an associated type":
     maybe impl_restriction(ImplRestriction first) maybe abi(Abi first)
     maybe trailing_where_clause(WhereClause first, past where_clause) maybe ty(Type first)
-    maybe const_token[CONST_KW] maybe async_token[ASYNC_KW] maybe gen_token[GEN_KW] maybe unsafe_token[UNSAFE_KW]
-    maybe safe_token[SAFE_KW] maybe auto_token[AUTO_KW] maybe default_token[DEFAULT_KW] one type_token[TYPE_KW]
-    maybe eq_token[EQ] one semicolon_token[SEMICOLON]
+    maybe const_token[CONST_KW] maybe async_token[ASYNC_KW] maybe unsafe_token[UNSAFE_KW] maybe safe_token[SAFE_KW]
+    maybe default_token[DEFAULT_KW] one type_token[TYPE_KW] maybe eq_token[EQ] one semicolon_token[SEMICOLON]
 }
 
 impl<'t> HasGenericParams<'t> for TypeAlias<'t> {
@@ -615,7 +613,7 @@ node! { Fn FN "a function":
     maybe impl_restriction(ImplRestriction first) maybe abi(Abi first) one param_list(ParamList first)
     maybe ret_type(RetType first) maybe body(BlockExpr first) maybe const_token[CONST_KW]
     maybe async_token[ASYNC_KW] maybe gen_token[GEN_KW] maybe unsafe_token[UNSAFE_KW] maybe safe_token[SAFE_KW]
-    maybe auto_token[AUTO_KW] maybe default_token[DEFAULT_KW] one fn_token[FN_KW] maybe semicolon_token[SEMICOLON]
+    maybe default_token[DEFAULT_KW] one fn_token[FN_KW] maybe semicolon_token[SEMICOLON]
 }
 
 node! { TokenTree TOKEN_TREE "any tokens in a pair of brackets":
@@ -662,33 +660,31 @@ node! { TupleField TUPLE_FIELD "a field without a name":
 
 node! { Const CONST "a constant":
     maybe impl_restriction(ImplRestriction first) maybe abi(Abi first) one ty(Type first) maybe body(Expr first)
-    one const_token[CONST_KW] maybe async_token[ASYNC_KW] maybe gen_token[GEN_KW] maybe unsafe_token[UNSAFE_KW]
-    maybe safe_token[SAFE_KW] maybe auto_token[AUTO_KW] maybe default_token[DEFAULT_KW] maybe type_token[TYPE_KW]
-    maybe mut_token[MUT_KW] maybe underscore_token[UNDERSCORE] one colon_token[COLON] maybe eq_token[EQ]
-    one semicolon_token[SEMICOLON]
+    one const_token[CONST_KW] maybe async_token[ASYNC_KW] maybe unsafe_token[UNSAFE_KW] maybe safe_token[SAFE_KW]
+    maybe default_token[DEFAULT_KW] maybe type_token[TYPE_KW] maybe mut_token[MUT_KW]
+    maybe underscore_token[UNDERSCORE] one colon_token[COLON] maybe eq_token[EQ] one semicolon_token[SEMICOLON]
 }
 
 node! { Static STATIC "a static variable":
     maybe impl_restriction(ImplRestriction first) maybe abi(Abi first)
     maybe generic_param_list(GenericParamList first) one ty(Type first) maybe body(Expr first)
-    maybe const_token[CONST_KW] maybe async_token[ASYNC_KW] maybe gen_token[GEN_KW] maybe unsafe_token[UNSAFE_KW]
-    maybe safe_token[SAFE_KW] maybe auto_token[AUTO_KW] maybe default_token[DEFAULT_KW] one static_token[STATIC_KW]
-    maybe mut_token[MUT_KW] one colon_token[COLON] maybe eq_token[EQ] one semicolon_token[SEMICOLON]
+    maybe const_token[CONST_KW] maybe async_token[ASYNC_KW] maybe unsafe_token[UNSAFE_KW] maybe safe_token[SAFE_KW]
+    one static_token[STATIC_KW] maybe mut_token[MUT_KW] one colon_token[COLON] maybe eq_token[EQ]
+    one semicolon_token[SEMICOLON]
 }
 
 node! { Trait TRAIT "a trait, or a name for bounds":
     maybe impl_restriction(ImplRestriction first) maybe abi(Abi first) maybe assoc_item_list(AssocItemList first)
-    maybe const_token[CONST_KW] maybe async_token[ASYNC_KW] maybe gen_token[GEN_KW] maybe unsafe_token[UNSAFE_KW]
-    maybe safe_token[SAFE_KW] maybe auto_token[AUTO_KW] maybe default_token[DEFAULT_KW] one trait_token[TRAIT_KW]
-    maybe eq_token[EQ] maybe semicolon_token[SEMICOLON]
+    maybe const_token[CONST_KW] maybe async_token[ASYNC_KW] maybe unsafe_token[UNSAFE_KW] maybe safe_token[SAFE_KW]
+    maybe auto_token[AUTO_KW] one trait_token[TRAIT_KW] maybe eq_token[EQ] maybe semicolon_token[SEMICOLON]
 }
 
 node! { Impl IMPL "the implementation of a trait or of a type":
     maybe impl_restriction(ImplRestriction first) maybe abi(Abi first)
     maybe trait_(Type first, only_before for_token) one self_ty(Type first, past for_token)
     one assoc_item_list(AssocItemList first) maybe const_token[CONST_KW] maybe async_token[ASYNC_KW]
-    maybe gen_token[GEN_KW] maybe unsafe_token[UNSAFE_KW] maybe safe_token[SAFE_KW] maybe auto_token[AUTO_KW]
-    maybe default_token[DEFAULT_KW] one impl_token[IMPL_KW] maybe excl_token[BANG] maybe for_token[FOR_KW]
+    maybe unsafe_token[UNSAFE_KW] maybe safe_token[SAFE_KW] maybe default_token[DEFAULT_KW] one impl_token[IMPL_KW]
+    maybe excl_token[BANG] maybe for_token[FOR_KW]
 }
 
 node! { AssocItemList ASSOC_ITEM_LIST "the items of a trait or of an implementation":
@@ -745,7 +741,7 @@ node! { CfgPredPat CFG_PRED_PAT "a condition as a pattern":
 }
 
 node! { LiteralPat LITERAL_PAT "a literal, perhaps with a minus":
-    maybe literal(Literal first) maybe minus_token[MINUS]
+    one literal(Literal first) maybe minus_token[MINUS]
 }
 
 node! { TupleStructPat TUPLE_STRUCT_PAT "a path with patterns in brackets":
@@ -786,7 +782,7 @@ node! { NotNull NOT_NULL "what is not null, in a pattern type":
 }
 
 node! { ParenPat PAREN_PAT "a pattern in brackets":
-    maybe pat(Pat first) one l_paren_token[L_PAREN] one r_paren_token[R_PAREN]
+    one pat(Pat first) one l_paren_token[L_PAREN] one r_paren_token[R_PAREN]
 }
 
 node! { TuplePat TUPLE_PAT "a tuple":
@@ -904,7 +900,7 @@ node! { LifetimeArg LIFETIME_ARG "a lifetime as an argument":
 }
 
 node! { ConstArg CONST_ARG "a constant as an argument, a length, a default or the value of a variant":
-    maybe expr(Expr first)
+    one expr(Expr first)
 }
 
 node! { AssocTypeArg ASSOC_TYPE_ARG "an associated type or constant, with its value or its bounds":
@@ -943,6 +939,7 @@ node! { WherePred WHERE_PRED "a condition: the bounds of a lifetime or a type":
 }
 
 node! { DocComment DOC_COMMENT "a comment of documentation":
+    maybe outer_doc_comment_token[OUTER_DOC_COMMENT] maybe inner_doc_comment_token[INNER_DOC_COMMENT]
 }
 
 node! { Attr ATTR "an attribute":
@@ -965,7 +962,8 @@ node! { CfgMeta CFG_META "a condition":
 }
 
 node! { CfgAtom CFG_ATOM "an option, perhaps with its value, or `true` or `false`":
-    maybe ident_token[IDENT] maybe eq_token[EQ] maybe string_token[STRING]
+    maybe ident_token[IDENT] maybe eq_token[EQ] maybe string_token[STRING] maybe true_token[TRUE_KW]
+    maybe false_token[FALSE_KW]
 }
 
 node! { CfgComposite CFG_COMPOSITE "`all`, `any` or `not` of conditions":

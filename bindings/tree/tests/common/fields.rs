@@ -69,8 +69,8 @@ fields! {
         any attrs any doc_comments any statements maybe tail_expr one [l_curly_token] one [r_curly_token]
     ;
     BlockExpr BLOCK_EXPR:
-        any attrs any doc_comments maybe label maybe try_block_modifier one stmt_list maybe [gen_token]
-        maybe [move_token] maybe [async_token] maybe [unsafe_token] maybe [const_token]
+        any attrs any doc_comments maybe label maybe try_block_modifier one stmt_list maybe [unsafe_token]
+        maybe [const_token] maybe [async_token] maybe [gen_token] maybe [move_token]
     ;
     Label LABEL:
         one lifetime one [colon_token]
@@ -88,7 +88,7 @@ fields! {
         any attrs any doc_comments one expr one [amp_token] maybe [raw_token] maybe [mut_token] maybe [const_token]
     ;
     PrefixExpr PREFIX_EXPR:
-        any attrs any doc_comments maybe expr maybe [op_token]
+        any attrs any doc_comments maybe expr one [op_token]
     ;
     CallExpr CALL_EXPR:
         any attrs any doc_comments one expr one arg_list
@@ -100,7 +100,7 @@ fields! {
         any attrs any doc_comments one receiver one name_ref maybe generic_arg_list one arg_list maybe [dot_token]
     ;
     FieldExpr FIELD_EXPR:
-        any attrs any doc_comments one expr maybe name_ref maybe [dot_token]
+        any attrs any doc_comments one expr one name_ref maybe [dot_token]
     ;
     AwaitExpr AWAIT_EXPR:
         any attrs any doc_comments one expr maybe [dot_token] one [await_token]
@@ -133,13 +133,13 @@ fields! {
         any attrs any doc_comments one path
     ;
     Literal LITERAL:
-        any attrs any doc_comments maybe [token]
+        any attrs any doc_comments one [token]
     ;
     UnderscoreExpr UNDERSCORE_EXPR:
         any attrs any doc_comments one [underscore_token]
     ;
     ParenExpr PAREN_EXPR:
-        any attrs any doc_comments maybe expr one [l_paren_token] one [r_paren_token]
+        any attrs any doc_comments one expr one [l_paren_token] one [r_paren_token]
     ;
     TupleExpr TUPLE_EXPR:
         any attrs any doc_comments any fields one [l_paren_token] one [r_paren_token]
@@ -265,8 +265,7 @@ fields! {
     ;
     ExternBlock EXTERN_BLOCK:
         any attrs any doc_comments maybe visibility maybe impl_restriction one abi one extern_item_list
-        maybe [const_token] maybe [async_token] maybe [gen_token] maybe [unsafe_token] maybe [safe_token]
-        maybe [auto_token] maybe [default_token]
+        maybe [const_token] maybe [async_token] maybe [unsafe_token] maybe [safe_token]
     ;
     ExternItemList EXTERN_ITEM_LIST:
         any attrs any doc_comments any extern_items one [l_curly_token] one [r_curly_token]
@@ -280,8 +279,8 @@ fields! {
     TypeAlias TYPE_ALIAS:
         any attrs any doc_comments maybe visibility maybe impl_restriction maybe abi one name maybe generic_param_list
         maybe type_bound_list maybe where_clause maybe trailing_where_clause maybe ty maybe [const_token]
-        maybe [async_token] maybe [gen_token] maybe [unsafe_token] maybe [safe_token] maybe [auto_token]
-        maybe [default_token] one [type_token] maybe [colon_token] maybe [eq_token] one [semicolon_token]
+        maybe [async_token] maybe [unsafe_token] maybe [safe_token] maybe [default_token] one [type_token]
+        maybe [colon_token] maybe [eq_token] one [semicolon_token]
     ;
     MacroRules MACRO_RULES:
         any attrs any doc_comments maybe visibility one name one token_tree one [macro_rules_token] one [excl_token]
@@ -293,8 +292,8 @@ fields! {
     Fn FN:
         any attrs any doc_comments maybe visibility maybe impl_restriction maybe abi one name maybe generic_param_list
         one param_list maybe ret_type maybe where_clause maybe body maybe [const_token] maybe [async_token]
-        maybe [gen_token] maybe [unsafe_token] maybe [safe_token] maybe [auto_token] maybe [default_token]
-        one [fn_token] maybe [semicolon_token]
+        maybe [gen_token] maybe [unsafe_token] maybe [safe_token] maybe [default_token] one [fn_token]
+        maybe [semicolon_token]
     ;
     TokenTree TOKEN_TREE:
         any token_trees
@@ -332,27 +331,26 @@ fields! {
     ;
     Const CONST:
         any attrs any doc_comments maybe visibility maybe impl_restriction maybe abi maybe name maybe generic_param_list
-        one ty maybe body maybe where_clause one [const_token] maybe [async_token] maybe [gen_token]
-        maybe [unsafe_token] maybe [safe_token] maybe [auto_token] maybe [default_token] maybe [type_token]
-        maybe [mut_token] maybe [underscore_token] one [colon_token] maybe [eq_token] one [semicolon_token]
+        one ty maybe body maybe where_clause one [const_token] maybe [async_token] maybe [unsafe_token]
+        maybe [safe_token] maybe [default_token] maybe [type_token] maybe [mut_token] maybe [underscore_token]
+        one [colon_token] maybe [eq_token] one [semicolon_token]
     ;
     Static STATIC:
         any attrs any doc_comments maybe visibility maybe impl_restriction maybe abi one name maybe generic_param_list
-        one ty maybe body maybe [const_token] maybe [async_token] maybe [gen_token] maybe [unsafe_token]
-        maybe [safe_token] maybe [auto_token] maybe [default_token] one [static_token] maybe [mut_token]
-        one [colon_token] maybe [eq_token] one [semicolon_token]
+        one ty maybe body maybe [const_token] maybe [async_token] maybe [unsafe_token] maybe [safe_token]
+        one [static_token] maybe [mut_token] one [colon_token] maybe [eq_token] one [semicolon_token]
     ;
     Trait TRAIT:
         any attrs any doc_comments maybe visibility maybe impl_restriction maybe abi one name maybe generic_param_list
         maybe type_bound_list maybe where_clause maybe assoc_item_list maybe [const_token] maybe [async_token]
-        maybe [gen_token] maybe [unsafe_token] maybe [safe_token] maybe [auto_token] maybe [default_token]
-        one [trait_token] maybe [colon_token] maybe [eq_token] maybe [semicolon_token]
+        maybe [unsafe_token] maybe [safe_token] maybe [auto_token] one [trait_token] maybe [colon_token]
+        maybe [eq_token] maybe [semicolon_token]
     ;
     Impl IMPL:
         any attrs any doc_comments maybe visibility maybe impl_restriction maybe abi maybe generic_param_list
         maybe trait_ one self_ty maybe where_clause one assoc_item_list maybe [const_token] maybe [async_token]
-        maybe [gen_token] maybe [unsafe_token] maybe [safe_token] maybe [auto_token] maybe [default_token]
-        one [impl_token] maybe [excl_token] maybe [for_token]
+        maybe [unsafe_token] maybe [safe_token] maybe [default_token] one [impl_token] maybe [excl_token]
+        maybe [for_token]
     ;
     AssocItemList ASSOC_ITEM_LIST:
         any attrs any doc_comments any assoc_items one [l_curly_token] one [r_curly_token]
@@ -394,7 +392,7 @@ fields! {
         one [r_paren_token]
     ;
     LiteralPat LITERAL_PAT:
-        maybe literal maybe [minus_token]
+        one literal maybe [minus_token]
     ;
     TupleStructPat TUPLE_STRUCT_PAT:
         one path any fields one [l_paren_token] one [r_paren_token]
@@ -424,7 +422,7 @@ fields! {
         one pat one [excl_token]
     ;
     ParenPat PAREN_PAT:
-        maybe pat one [l_paren_token] one [r_paren_token]
+        one pat one [l_paren_token] one [r_paren_token]
     ;
     TuplePat TUPLE_PAT:
         any fields one [l_paren_token] one [r_paren_token]
@@ -509,7 +507,7 @@ fields! {
         one lifetime
     ;
     ConstArg CONST_ARG:
-        maybe expr
+        one expr
     ;
     AssocTypeArg ASSOC_TYPE_ARG:
         one name_ref maybe generic_arg_list maybe return_type_syntax maybe parenthesized_arg_list maybe ret_type
@@ -539,6 +537,7 @@ fields! {
         maybe lifetime maybe for_binder maybe ty one type_bound_list one [colon_token]
     ;
     DocComment DOC_COMMENT:
+        maybe [outer_doc_comment_token] maybe [inner_doc_comment_token]
     ;
     Attr ATTR:
         one meta one [pound_token] maybe [excl_token] one [l_brack_token] one [r_brack_token]
@@ -553,7 +552,7 @@ fields! {
         one cfg_predicate one [cfg_token] one [l_paren_token] maybe [comma_token] one [r_paren_token]
     ;
     CfgAtom CFG_ATOM:
-        maybe [ident_token] maybe [eq_token] maybe [string_token]
+        maybe [ident_token] maybe [eq_token] maybe [string_token] maybe [true_token] maybe [false_token]
     ;
     CfgComposite CFG_COMPOSITE:
         any cfg_predicates one [ident_token] one [l_paren_token] one [r_paren_token]
