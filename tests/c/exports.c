@@ -153,8 +153,11 @@ int main(void)
         unsigned long count = sweep(&c, size.steps, size.notes, size.message_bytes, line);
         count += sweep(&c, size.steps / 2, size.notes / 2, size.message_bytes / 2, line);
         count += sweep(&c, 0, 0, 0, line);
-        int takes_none = c.which == SHEBANG || c.which == BLANK || (c.which == SCRIPT && size.status == RAP_OK);
-        int may_take_none = size.status > RAP_NO_TREE && size.status < RAP_NO_SCRIPT && size.status != RAP_NO_MEMORY;
+        int takes_none = c.which == SHEBANG || c.which == BLANK || (c.which == SCRIPT && size.status == RAP_OK)
+            || (c.which == NUMBER_VALUE && c.node != RAP_KIND_FLOAT_NUMBER)
+            || (c.which == STRING_VALUE && (c.node < RAP_KIND_STRING || c.node > RAP_KIND_C_STRING));
+        int may_take_none = (size.status > RAP_NO_TREE && size.status < RAP_NO_SCRIPT && size.status != RAP_NO_MEMORY)
+            || size.status == RAP_NO_LITERAL;
         check(count == 0 || !takes_none, line, 0, "a growth where none is needed");
         check(count > 0 || takes_none || may_take_none, line, 0, "no growth was refused");
         all += count;

@@ -11,6 +11,8 @@
  *     script TEXT
  *     shebang TEXT
  *     blank TEXT
+ *     string NODE TEXT
+ *     number NODE TEXT
  *
  * ENTRY is a number; NODE, FIRST and PARENT are names of kinds, or `-` for none; TEXT is in hexadecimal digits after
  * an `=`; the `=` alone is the empty text. */
@@ -23,7 +25,8 @@
 #include <string.h>
 
 enum which {
-    TREE, TOKENS, PREFIX, REPARSE, WORDS, NODES, PREFIX_NODES, REPARSE_NODES, SCRIPT, SHEBANG, BLANK, NO_CALL
+    TREE, TOKENS, PREFIX, REPARSE, WORDS, NODES, PREFIX_NODES, REPARSE_NODES, SCRIPT, SHEBANG, BLANK, STRING_VALUE,
+    NUMBER_VALUE, NO_CALL
 };
 
 /* A call without its arrays. */
@@ -35,7 +38,8 @@ struct call {
 };
 
 /* The arrays of a call, and how much room they have: the first is of steps, of words, of elements or of parts, as the
- * call has them; the second of messages, where the call has them apart; and the last of the messages' bytes. */
+ * call has them; the second of messages, where the call has them apart; and the last of the messages' bytes, or of
+ * those that a string stands for. */
 struct room {
     void *steps;
     size_t step_room;
@@ -60,7 +64,7 @@ static inline int has_list(const struct call *c)
     return c->which == NODES || c->which == PREFIX_NODES || c->which == REPARSE_NODES;
 }
 
-/* How many bytes one of the first array has. The last two calls have none. */
+/* How many bytes one of the first array has. The last four calls have none. */
 static inline size_t size_of_step(const struct call *c)
 {
     if (has_list(c))
@@ -83,6 +87,19 @@ static inline struct rap_nodes_answer list_at(const struct call *c, const uint8_
                              r.notes, r.note_room, r.messages, r.message_room);
 }
 
+/* Makes a call for the value of a literal on a text at another address. */
+static inline struct rap_answer value_at(const struct call *c, const uint8_t *text, struct room r)
+{
+    if (c->which == STRING_VALUE) {
+        struct rap_string string = rap_string_value(text, c->length, c->node, r.messages, r.message_room);
+        struct rap_answer of_string = {string.status, 0, string.bytes, 0};
+        return of_string;
+    }
+    struct rap_number number = rap_number_value(text, c->length, c->node);
+    struct rap_answer of_number = {number.status, 0, 0, number.suffix};
+    return of_number;
+}
+
 /* Makes another call on a text at another address. */
 static inline struct rap_answer steps_at(const struct call *c, const uint8_t *text, struct room r)
 {
@@ -102,8 +119,10 @@ static inline struct rap_answer steps_at(const struct call *c, const uint8_t *te
         return rap_script(text, c->length, r.steps, r.step_room, r.messages, r.message_room);
     case SHEBANG:
         return rap_shebang(text, c->length);
-    default:
+    case BLANK:
         return rap_blank_lines(text, c->length);
+    default:
+        return value_at(c, text, r);
     }
 }
 
@@ -166,7 +185,8 @@ static inline void read_text(struct call *c, const char *word)
 static inline struct call read_call(char *line)
 {
     static const char *const names[] = {"tree",  "tokens",       "prefix",        "reparse", "words",   "nodes",
-                                        "prefix_nodes", "reparse_nodes", "script",  "shebang", "blank"};
+                                        "prefix_nodes", "reparse_nodes", "script",  "shebang", "blank",
+                                        "string", "number"};
     struct call c = {0};
     const char *word = strtok(line, " \n");
     while (c.which < NO_CALL && strcmp(word, names[c.which]) != 0)
@@ -177,8 +197,9 @@ static inline struct call read_call(char *line)
         c.edition = (uint32_t)atoi(next_word());
     if (c.which < SCRIPT && c.which != TOKENS && c.which != REPARSE && c.which != REPARSE_NODES)
         c.entry = (uint32_t)atoi(next_word());
-    if (c.which == REPARSE || c.which == REPARSE_NODES) {
+    if (c.which == REPARSE || c.which == REPARSE_NODES || c.which >= STRING_VALUE)
         c.node = kind_named(next_word());
+    if (c.which == REPARSE || c.which == REPARSE_NODES) {
         c.first_child = kind_named(next_word());
         c.parent = kind_named(next_word());
     }

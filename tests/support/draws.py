@@ -275,3 +275,38 @@ class Drawer:
                 for key, what in [((number, at), 'the row'), *self.keys(row)]:
                     if key not in self.drawn:
                         yield f'{name} row {at}: {what}'
+
+
+def given_text(drawer: Drawer, token: Token) -> str:
+    """A text of a token."""
+    if token.kind == KINDS.ident:
+        words = {kind: word for word, kind in KINDS.words.items()}
+        return words.get(token.word) or drawer.random.choice(TEXTS['IDENT'])
+    name = KINDS.names[token.kind]
+    return drawer.random.choice(TEXTS[name]) if name in TEXTS else KINDS.texts.get(token.kind) \
+        or KINDS.reserved[token.kind]
+
+
+def is_head(tokens: list[Token]) -> bool:
+    """Whether there are tokens, and each may stand at the front of a text alone."""
+    return bool(tokens) and all(KINDS.names[it.kind] in ('SHEBANG', 'FRONTMATTER') for it in tokens)
+
+
+def has_text(tokens: list[Token]) -> bool:
+    """Whether a text can have these tokens."""
+    heads = [at for at, token in enumerate(tokens) if is_head([token])]
+    names = [KINDS.names[tokens[at].kind] for at in heads]
+    return heads == list(range(len(heads))) and names in ([], ['SHEBANG'], ['FRONTMATTER'], ['SHEBANG', 'FRONTMATTER'])
+
+
+def text_of(drawer: Drawer, tokens: list[Token]) -> str:
+    """A text of tokens, which notes what of them touches in it."""
+    text = '' if is_head(tokens[:1]) else drawer.random.choice(['', ' ', '// c\n'])
+    for token, after in zip(tokens, [*tokens[1:], None]):
+        token.text = given_text(drawer, token)
+        touches = token.is_part or token.joint and after and token.text in TOUCHING and \
+            KINDS.texts.get(after.kind, ' ') in TOUCHING or is_head([token]) and after and is_head([after])
+        between = '' if touches else '\n' if is_head([token]) else drawer.random.choice(BETWEEN)
+        token.joint = not token.text.endswith('.') if KINDS.names[token.kind] == 'FLOAT_NUMBER' else bool(touches)
+        text += token.text + between
+    return text

@@ -11,6 +11,14 @@ from support.sample import PREFIXES, TOPS, Row
 # The exports that cut script sources.
 SCRIPT_CALLS = [['script'], ['shebang'], ['blank']]
 
+# Literals, by the exports and the kinds.
+LITERALS = [(['string', 'STRING'], '"a\\n\\u{e9}"'), (['string', 'STRING'], 'r#"ab"#'),
+            (['string', 'BYTE_STRING'], 'b"\\xff\\0a"'), (['string', 'C_STRING'], 'c"\\xffa"x'),
+            (['string', 'STRING'], '"\\q"'), (['string', 'CHAR'], "'a'"), (['number', 'INT_NUMBER'], '0xff_u8'),
+            (['number', 'INT_NUMBER'], '0b12'), (['number', 'FLOAT_NUMBER'], '1_5.25e-1f32'),
+            (['number', 'FLOAT_NUMBER'], '1e'), (['number', 'CHAR'], "'\\n'"), (['number', 'BYTE'], "b'a'x"),
+            (['number', 'STRING'], '"a"')]
+
 
 def line_of(words: list[str], text: Union[str, bytes]) -> str:
     """A line that `tests/c/exports.h` reads."""

@@ -8,11 +8,11 @@ from typing import Iterable, Iterator, NamedTuple, Optional
 from nodes_page.shapes import Letter, Shapes, State, automaton
 from support import TOP
 from support.kinds import read_kinds
-from support.shape_trees import FLOAT, Floats, Node, Tree
+from support.shape_trees import Floats, Node, Tree
 
-# How the end of the children is written, and a child that is any token or a float.
+# How the end of the children is written, and a child that is any token.
 END = 'end'
-FORMS = {'any_leaf': 'TOKEN', 'a_float': 'FLOAT'}
+FORMS = {'any_leaf': 'TOKEN'}
 
 
 class Move(NamedTuple):
@@ -25,8 +25,6 @@ class Move(NamedTuple):
         """Whether a child, and the number of its kind, is such a one."""
         if self.letter.form == 'any_leaf':
             return not child.is_node
-        if self.letter.form == 'a_float':
-            return child.kind == FLOAT
         return self.letter.form == ('node_of' if child.is_node else 'leaf_of') and number in self.letter.kinds
 
 

@@ -1,7 +1,5 @@
-"""Trees as `rast` prints them, and the children of their nodes as the parser made them.
-
-A float behind a dot is two fields in a tree. Here it is one child again: in `x.1.2` the inner field has a float behind
-its dot, and the outer one has nothing but the inner one. In `x.1. y` the dot that the float ends in is no child."""
+"""Trees as `rast` prints them, and the children of their nodes as shapes spell them: in `x.1. y` the dot in which a
+float ends is no child."""
 import os
 import re
 import subprocess
@@ -19,9 +17,6 @@ TRIVIA = {'WHITESPACE', 'COMMENT'}
 
 # What `rast` says of a text that it makes no tree of.
 UNMEASURED = {'rast: cannot read the file', 'rast: text too long', 'rast: too many tokens'}
-
-# How the child is called that is a float.
-FLOAT = 'a_float'
 
 
 class Text(NamedTuple):
@@ -108,10 +103,10 @@ class Floats:
 
     def __init__(self, tree: Tree) -> None:
         self.text = tree.text
-        # the fields with a float behind their dot, and those with nothing but such a field
+        # the fields that a float ends, and those with such a field and the number behind the float's dot
         self.inner: set[int] = set()
         self.outer: set[int] = set()
-        # The innermost fields come first: one that has no child but a field ends in no float of its own.
+        # The innermost fields come first: one that has the second number of a float ends in none of its own.
         for node in reversed(tree.nodes):
             for behind, (it, dot) in enumerate(zip(node.children, node.children[1:]), 2):
                 if it.kind == 'FIELD_EXPR' and dot.kind == 'DOT' and self.is_float(it, dot):
@@ -130,14 +125,8 @@ class Floats:
         return behind != '.' and not behind.isidentifier()
 
     def children(self, node: Node) -> list[Node]:
-        """The children of a node as the parser made them."""
-        found: list[Node] = []
-        for at, child in enumerate(node.children):
-            if child.kind == 'DOT' and at and id(node.children[at - 1]) in self.inner:
-                if id(node) in self.outer:
-                    break
-            elif id(node) in self.inner and at == len(node.children) - 1:
-                found.append(Node(FLOAT, child.start, child.end))
-            else:
-                found.append(child)
-        return found
+        """The children of a node as its shape spells them."""
+        if id(node) in self.outer:
+            return node.children
+        return [child for at, child in enumerate(node.children)
+                if child.kind != 'DOT' or not at or id(node.children[at - 1]) not in self.inner]
