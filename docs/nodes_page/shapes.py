@@ -1,8 +1,8 @@
 """The shapes of nodes as crates/rap_grammar_shapes/specs/Shapes.antt gives them, and what may follow in one.
 
 A shape is a constructor with its arguments (`Made`), as values.py of core_page makes them. A child is a letter: a leaf
-or a node of one of some kinds, any leaf, or a float that is taken apart. These are apart from one another, as they are
-in the scripts, where what takes any token names no kind."""
+or a node of one of some kinds, or any leaf. These are apart from one another, as they are in the scripts, where what
+takes any token names no kind."""
 from typing import NamedTuple, Optional
 
 from core_page.values import Evaluator, Made, Modules
@@ -11,7 +11,7 @@ CRATES = ('rap_grammar_shapes', 'rap_base')
 MODULE = 'Shapes'
 
 # The constructors of a shape. Those of one child are letters; the others are put together of shapes.
-LETTERS = ('leaf_of', 'node_of', 'any_leaf', 'a_float')
+LETTERS = ('leaf_of', 'node_of', 'any_leaf')
 FORMS = ('nothing', 'any_of', '⋅', 'or', *LETTERS)
 NOTHING = Made('nothing')
 
@@ -82,7 +82,7 @@ def either(first: Optional[Made], second: Optional[Made]) -> Optional[Made]:
 def past(letter: Letter, shape: Made) -> Optional[Made]:
     """What may follow in a shape after a child of any of a letter's kinds; none where there is no such child."""
     given = shape.arguments
-    if shape.name in ('any_leaf', 'a_float'):
+    if shape.name == 'any_leaf':
         return NOTHING if letter.form == shape.name else None
     if shape.name in LETTERS:
         return NOTHING if letter.form == shape.name and set(letter.kinds) <= set(given[0]) else None
@@ -167,7 +167,7 @@ class Child(NamedTuple):
     kind: int
 
     def fits(self, letter: Letter) -> bool:
-        """Whether a letter may be this child. A float that is taken apart is printed as what is made of it."""
+        """Whether a letter may be this child."""
         if letter.form == 'any_leaf':
             return not self.is_node
         return letter.form == ('node_of' if self.is_node else 'leaf_of') and self.kind in letter.kinds

@@ -66,8 +66,8 @@ class Writer:
             return self.one_of(self.kinds(term[2][0], given))
         if name == 'any_of':
             return Text(self.text(term[2][0], given).within(ONE) + '*')
-        if name in ('any_leaf', 'a_float'):
-            return Text({'any_leaf': 'TOKEN', 'a_float': 'FLOAT'}[name])
+        if name == 'any_leaf':
+            return Text('TOKEN')
         if term[0] == 'name' and name not in WRITTEN_OUT:
             self.used.add(name)
             return Text(name)
