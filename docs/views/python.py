@@ -27,7 +27,10 @@ Where this module is imported, each node of a tree is of the class of its kind: 
 
 A field of one child is None where it is missing, and one of several is a list. What cannot be missing in a node without
 a message or an ERROR right in it is said in docs/NODES.md of the repository. `_fields` has the names of the fields of a
-class that are nodes, in the order of the text. A name that all nodes have for something else has a `_` at its end."""
+class that are nodes, in the order of the text. A name that all nodes have for something else has a `_` at its end.
+
+When a field of one child or token is asked for first, it is looked for in all nodes of the tree, and what is found is
+kept with the tree: four bytes for each node and token."""
 from __future__ import annotations
 
 from rap._views import Child as _Child

@@ -56,7 +56,7 @@ class Messages(NamedTuple):
 class Elements:
     """Elements over a text."""
 
-    __slots__ = ('source', 'words', '_array', '_messages', '_errors')
+    __slots__ = ('source', 'words', 'found', '_array', '_messages', '_errors')
 
     def __init__(self, source: Source, array: Column, messages: Messages) -> None:
         self.source = source
@@ -64,6 +64,8 @@ class Elements:
         self._array = array
         self._array.setflags(write=False)
         self.words = self._array.data
+        # What fields of `rap.ast` have found of all nodes, by the numbers of their rules.
+        self.found: dict[int, memoryview] = {}
         self._messages = messages
         self._errors: list[Error] | None = None
 

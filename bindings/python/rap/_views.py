@@ -2,9 +2,12 @@
 from __future__ import annotations
 
 from collections.abc import Iterable, Iterator
-from typing import Generic, TypeVar, cast, overload
+from typing import ClassVar, Generic, TypeVar, cast, overload
 
-from rap.kinds import Kind
+import numpy as np
+
+from rap._elements import NO_PARENT, Column, Elements
+from rap.kinds import KINDS, Kind
 from rap.node import CLASSES, Element, Node, Token
 
 N = TypeVar('N', bound=Element)
@@ -13,46 +16,66 @@ N = TypeVar('N', bound=Element)
 class Rule:
     """Which children of a node are found: those of some kinds, at a place that is told by another field."""
 
-    __slots__ = ('_kinds', '_place', '_mark', '_is_last')
+    __slots__ = ('_kinds', '_place', '_mark', '_is_last', '_number')
+
+    # The numbers of rules: two that find the same have the same one.
+    _numbers: ClassVar[dict[object, int]] = {}
+    _number: int
 
     def __init__(self, kinds: Iterable[Kind], place: str = '', mark: str = '', last: bool = False) -> None:
         self._kinds = frozenset(int(it) for it in kinds)
-        self._place, self._mark, self._is_last = place, mark, last
+        self._place, self._is_last = place, last
+        self._mark: str | Rule = mark
 
-    def _bounds(self, node: Node) -> tuple[int, int]:
-        """The indices between which the children are looked for."""
-        words = node._of.words
-        first, end = node._index + 1, words[5 * node._index + 3]
-        if not self._place:
-            return first, end
-        mark: Element | None = getattr(node, self._mark)
-        if self._place in ('before', 'only_before'):
-            return first, mark._index if mark else end if self._place == 'before' else first
-        if mark:
-            return words[5 * mark._index + 3], end
-        return (end, end) if self._place == 'after' else (first, end)
+    def __set_name__(self, owner: type[Node], name: str) -> None:
+        """The class has all its fields: the one that tells the place is looked up."""
+        if isinstance(self._mark, str) and self._mark:
+            self._mark = cast(Rule, vars(owner)[self._mark])
+            self._mark.__set_name__(owner, name)
+        mark = self._mark._number if isinstance(self._mark, Rule) else None
+        self._number = self._numbers.setdefault((self._kinds, self._place, mark, self._is_last), len(self._numbers))
 
     def _indices(self, node: Node) -> Iterator[int]:
         """The indices of the children."""
         words, kinds = node._of.words, self._kinds
-        at, end = self._bounds(node)
+        at, end = node._index + 1, words[5 * node._index + 3]
+        if isinstance(self._mark, Rule):
+            mark = self._mark._ones(node._of)[node._index]
+            if self._place in ('before', 'only_before'):
+                end = mark or (end if self._place == 'before' else at)
+            elif mark or self._place == 'after':
+                at = words[5 * mark + 3] if mark else end
         while at < end:
             if words[5 * at] in kinds:
                 yield at
             at = words[5 * at + 3]
 
-    def _one(self, node: Node) -> Element | None:
-        """The child that is found."""
-        words, kinds, found = node._of.words, self._kinds, 0
-        at, end = self._bounds(node)
-        while at < end:
-            if words[5 * at] in kinds:
-                found = at
-                if not self._is_last:
-                    break
-            at = words[5 * at + 3]
-        # No child has the index 0.
-        return node._of.element(found) if found else None
+    def _ones(self, of: Elements) -> memoryview:
+        """The one child that is found in a node, by the node's index; 0 where there is none. That of all nodes of the
+        tree is looked for at once, and kept with the tree."""
+        ones = of.found.get(self._number)
+        if ones is None:
+            column = np.zeros(len(of.words) // 5, np.uint32)
+            found, parents = self._all(of)
+            order = slice(None, None, 1 if self._is_last else -1)
+            # Of several the last that is written stays.
+            column[parents[order]] = found[order]
+            ones = of.found[self._number] = column.data
+        return ones
+
+    def _all(self, of: Elements) -> tuple[Column, Column]:
+        """The children that are found in all nodes of a tree, and the nodes that they are in."""
+        is_wanted = np.zeros(len(KINDS), bool)
+        is_wanted[list(self._kinds)] = True
+        columns = of.columns()
+        found = np.flatnonzero(is_wanted[columns.kind] & (columns.parent != NO_PARENT)).astype(np.uint32)
+        parents = columns.parent[found]
+        if not isinstance(self._mark, Rule):
+            return found, parents
+        marks = np.asarray(self._mark._ones(of))[parents]
+        is_there = {'before': (marks == 0) | (found < marks), 'only_before': found < marks,
+                    'after': (marks > 0) & (found > marks), 'past': found > marks}[self._place]
+        return found[is_there], parents[is_there]
 
 
 class Child(Rule, Generic[N]):
@@ -67,7 +90,14 @@ class Child(Rule, Generic[N]):
     def __get__(self, node: Node, owner: type[Node]) -> N | None: ...
 
     def __get__(self, node: Node | None, owner: type[Node]) -> Child[N] | N | None:
-        return self if node is None else cast('N | None', self._one(node))
+        if node is None:
+            return self
+        of = node._of
+        try:
+            at = of.found[self._number][node._index]
+        except KeyError:
+            at = self._ones(of)[node._index]
+        return CLASSES[of.words[5 * at]](of, at) if at else None  # type: ignore[return-value]
 
 
 class Leaf(Rule):
@@ -82,7 +112,14 @@ class Leaf(Rule):
     def __get__(self, node: Node, owner: type[Node]) -> Token | None: ...
 
     def __get__(self, node: Node | None, owner: type[Node]) -> Leaf | Token | None:
-        return self if node is None else cast('Token | None', self._one(node))
+        if node is None:
+            return self
+        of = node._of
+        try:
+            at = of.found[self._number][node._index]
+        except KeyError:
+            at = self._ones(of)[node._index]
+        return Token(of, at) if at else None
 
 
 class Children(Rule, Generic[N]):
@@ -97,7 +134,7 @@ class Children(Rule, Generic[N]):
     def __get__(self, node: Node, owner: type[Node]) -> list[N]: ...
 
     def __get__(self, node: Node | None, owner: type[Node]) -> Children[N] | list[N]:
-        return self if node is None else [cast('N', node._of.element(it)) for it in self._indices(node)]
+        return self if node is None else [cast('N', node._of.node(it)) for it in self._indices(node)]
 
 
 def of(node: Node) -> Node:

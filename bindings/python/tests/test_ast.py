@@ -109,8 +109,8 @@ def found_by(node: rap.Node, rule: Rule) -> list[int]:
     """The indices of what a field finds."""
     if isinstance(rule, Children):
         return list(rule._indices(node))
-    child = rule._one(node)
-    return [] if child is None else [child.index]
+    child = rule._ones(node._of)[node.index]
+    return [child] if child else []
 
 
 def lines(tree: rap.Tree) -> Iterator[str]:
