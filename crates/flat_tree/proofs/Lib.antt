@@ -5,6 +5,7 @@ pub mod Collected
 pub mod Coverings
 pub mod Cuts
 pub mod Faults
+pub mod Fitting
 pub mod Kin
 pub mod LeafLists
 pub mod Links

@@ -3,6 +3,7 @@ pub mod Built
 pub mod ByteLeaf
 pub mod Collects
 pub mod CoveringIndex
+pub mod FieldChild
 pub mod FlatTree
 pub mod Laws
 pub mod LeavesOf

@@ -1,8 +1,9 @@
 //! What stands right in a node.
-ghost use Rattle.std.specs.Prelude.{◌≡◌};
+ghost use Rattle.std.specs.Prelude.{◌≡◌, []};
 ghost use Rattle.rap_ranged.specs.RangedForest.{RangedNode};
 ghost use Rattle.flat_tree.specs.FlatTree.{elements_of_tree};
 ghost use Rattle.flat_tree.specs.Navigation.{child_indices};
+ghost use Rattle.flat_tree.specs.Order.{PassesForward};
 
 use crate::element::Element;
 use crate::tree::FlatTree;
@@ -39,6 +40,20 @@ pub struct Children<'a> {
     elements: &'a [Element],
     next: u32,
     end: u32,
+}
+
+impl<'a> Children<'a> {
+    /// No children.
+    pub(crate) fn none(elements: &'a [Element]) -> Children<'a>
+        requires { PassesForward elements.now }
+        ensures { result ≡ [] }
+    {
+        Children {
+            elements,
+            next: 0,
+            end: 0,
+        }
+    }
 }
 
 impl<'a> Model for Children<'a> {

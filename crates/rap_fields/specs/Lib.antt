@@ -1,6 +1,10 @@
 pub mod Field
+pub mod FieldNames
 pub mod Filled
 pub mod Found
 pub mod Place
 pub mod PlacedRows
 pub mod Rows
+pub mod Rule
+pub mod RuleOf
+pub mod Rules

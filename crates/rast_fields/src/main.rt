@@ -1,0 +1,59 @@
+//! `rast_fields EDITION ENTRY FILE` prints what the fields of the nodes of a file's tree find.
+#![tactic(auto)]
+
+use flat_tree::{Field, FlatTree};
+use ra_ap_parser::{Edition, NoMemory, TopEntryPoint};
+use rast_common::fault::{exit_code, report};
+use rast_print::request::read_tree_request;
+use std::alloc::Global;
+use std::fmt::Write as _;
+use std::fs;
+use std::process::ExitCode;
+
+const USAGE: &str = "usage: rast_fields EDITION ENTRY FILE\n";
+
+const UNREADABLE: &str = "rast_fields: cannot read the file\n";
+
+const NO_LINES: &str = "rast_fields: text too long, too many tokens, or no memory\n";
+
+const CANNOT_WRITE: &str = "rast_fields: cannot write\n";
+
+/// Adds a line for each child that a field of a node finds: the index of the node, the field's name, and the index of
+/// the child. The fields of a node stand in the order of their names.
+fn add_lines(lines: &mut String, tree: &FlatTree<'_>, index: u32) -> Result<(), NoMemory> {
+    for number in 1..=u16::from(Field::YIELD_TOKEN) {
+        if let Some(field) = Field::of_number(number) {
+            for child in tree.field_children(index, field) {
+                writeln!(lines, "{index} {} {child}", field.name())?;
+            }
+        }
+    }
+    Ok(())
+}
+
+/// The lines of all nodes of a text's tree; `None` where the text has none, or memory is refused.
+fn lines_of(alloc: Global, edition: Edition, entry: TopEntryPoint, text: &str) -> Option<String> {
+    let tree = FlatTree::of_text(alloc, edition, entry, text).ok()?;
+    let mut lines = String::new(alloc);
+    for index in 0..tree.elements().len() as u32 {
+        add_lines(&mut lines, &tree, index).ok()?;
+    }
+    Some(lines)
+}
+
+fn main(rt: HostRuntime) -> ExitCode {
+    let mut err = rt.stderr();
+    let Some((request, false)) = read_tree_request(&rt, "") else {
+        return exit_code(report(&mut err, USAGE));
+    };
+    let Ok(text) = fs::read_to_string(&rt, request.file.as_str()) else {
+        return exit_code(report(&mut err, UNREADABLE));
+    };
+    let Some(lines) = lines_of(rt.alloc(), request.edition, request.entry, text.as_str()) else {
+        return exit_code(report(&mut err, NO_LINES));
+    };
+    match print!(rt; "{lines}") {
+        Ok(()) => ExitCode::SUCCESS,
+        Err(_) => exit_code(report(&mut err, CANNOT_WRITE)),
+    }
+}
