@@ -1,5 +1,5 @@
-"""What the crate rap_fields has of each field: its number and its name, and the rule by which its children are found, for
-the program and for contracts."""
+"""What the crate rap_fields has of each field: its number and its name, and the rule by which its children are found,
+for the program and for contracts."""
 import re
 import textwrap
 from typing import Iterable, Iterator, NamedTuple, Optional
@@ -12,6 +12,8 @@ WHICH = {'first': 'First', 'last': 'Last', 'all': 'All'}
 TEN = 10
 STATIC = "&'static "
 ROW = f'{STATIC}[(u16, {STATIC}[Step])]'
+# A row as contracts see it.
+SEEN = '(λ row. (row.0, map {B = Look} look_of row.1.now))'
 
 
 class Look(NamedTuple):
@@ -42,7 +44,8 @@ def lined(words: Iterable[str], indent: str = '    ') -> list[str]:
 
 def constants(views: Views, _said: dict[str, str]) -> list[str]:
     """field/constants.rt."""
-    rows = [f'    pub const {name.upper()}: Field = Field {{ number: {at} }};' for at, name in enumerate(names(views)) if at]
+    numbered = list(enumerate(names(views)))[1:]
+    rows = [f'    pub const {name.upper()}: Field = Field {{ number: {number} }};' for number, name in numbered]
     return ['//! The constants of all fields.', 'use super::Field;', '', 'impl Field {', '\n\n'.join(rows), '}']
 
 
@@ -78,8 +81,8 @@ class Rules:
         self.numbers = {name: number for number, name in views.names.items()}
 
     def tens(self) -> list[int]:
-        """The tens of kinds of which one has fields. A ten is stated and proved at once: what that takes grows with the
-        square of its rows."""
+        """The tens of kinds of which one has fields. A ten is stated and proved at once: what that takes grows with
+        the square of its rows."""
         return sorted({kind // TEN for kind in self.nodes})
 
     def of_ten(self, ten: int) -> list[Optional[Node]]:
@@ -117,7 +120,7 @@ class Rules:
                 f'#[tactic(auto, unfolding(crate::specs::Rules::rules_{ten}))]',
                 f"fn rules_{ten}() -> &'static {form}",
                 '    ensures { map {B = List Row}',
-                '        (λ rows. map {B = Row} (λ row. (row.0, map {B = Look} look_of row.1.now)) rows.now) result.now',
+                f'        (λ rows. map {{B = Row}} {SEEN} rows.now) result.now',
                 f'        ≡ rules_{ten} }}', '{', f'    &RULES_{ten}', '}', '',
                 f'static RULES_{ten}: {form.replace(STATIC, "&")} = rules![', *self.rows(ten), '];']
 
@@ -144,15 +147,17 @@ def program(views: Views, _said: dict[str, str]) -> list[str]:
         '/// Kinds by the name of their list, or by their numbers.', 'macro_rules! kinds {',
         *(line for name, kinds in used for line in (f'    ({name}) => {{', *lined(words_of(kinds), ' ' * 8), '    };')),
         '    ($($kind:literal)*) => {', '        &[$($kind),*]', '    };', '}', '',
-        '/// For each kind in turn its fields by their numbers, each with the steps of its rule.', 'macro_rules! rules {',
+        '/// For each kind in turn its fields by their numbers, each with the steps of its rule.',
+        'macro_rules! rules {',
         '    ($([$(($field:literal $($place:ident $which:ident ($($kinds:tt)*))+))*])*) => {',
         '        [$(&[$(',
         '            ($field, &[$(Step { place: Place::$place, which: Which::$which, kinds: kinds!($($kinds)*) }),+])',
         '        ),*]),*]', '    };', '}', '',
         '/// The fields of a kind by their numbers, each with the steps of its rule.',
         f'pub(crate) fn rows_of(kind: SyntaxKind) -> {ROW}',
-        '    ensures { map {B = Row} (λ row. (row.0, map {B = Look} look_of row.1.now)) result.now ≡ rows_of kind }', '{',
-        '    let number = u16::from(kind);', f'    let one = usize::from(number % {TEN});', f'    match number / {TEN} {{',
+        f'    ensures {{ map {{B = Row}} {SEEN} result.now ≡ rows_of kind }}', '{',
+        '    let number = u16::from(kind);', f'    let one = usize::from(number % {TEN});',
+        f'    match number / {TEN} {{',
         *(f'        {ten} => rules_{ten}()[one],' for ten in tens), '        _ => &[],', '    }', '}', *tables]
 
 

@@ -3,7 +3,9 @@
 
 use flat_tree::{Field, FlatTree};
 use ra_ap_parser::{Edition, NoMemory, TopEntryPoint};
-use rast_common::fault::{exit_code, report};
+use rast_common::fault::{Fault, exit_code, report};
+use rast_common::show::finish;
+use rast_print::print_text::fault_of;
 use rast_print::request::read_tree_request;
 use std::alloc::Global;
 use std::fmt::Write as _;
@@ -13,10 +15,6 @@ use std::process::ExitCode;
 const USAGE: &str = "usage: rast_fields EDITION ENTRY FILE\n";
 
 const UNREADABLE: &str = "rast_fields: cannot read the file\n";
-
-const NO_LINES: &str = "rast_fields: text too long, too many tokens, or no memory\n";
-
-const CANNOT_WRITE: &str = "rast_fields: cannot write\n";
 
 /// Adds a line for each child that a field of a node finds: the index of the node, the field's name, and the index of
 /// the child. The fields of a node stand in the order of their names.
@@ -31,14 +29,24 @@ fn add_lines(lines: &mut String, tree: &FlatTree<'_>, index: u32) -> Result<(), 
     Ok(())
 }
 
-/// The lines of all nodes of a text's tree; `None` where the text has none, or memory is refused.
-fn lines_of(alloc: Global, edition: Edition, entry: TopEntryPoint, text: &str) -> Option<String> {
-    let tree = FlatTree::of_text(alloc, edition, entry, text).ok()?;
+/// The lines of all nodes of a text's tree. The error is why it has none.
+fn lines_of(
+    alloc: Global,
+    edition: Edition,
+    entry: TopEntryPoint,
+    text: &str,
+) -> Result<String, Fault> {
+    let tree = match FlatTree::of_text(alloc, edition, entry, text) {
+        Ok(tree) => tree,
+        Err(fault) => return Err(fault_of(&fault)),
+    };
     let mut lines = String::new(alloc);
     for index in 0..tree.elements().len() as u32 {
-        add_lines(&mut lines, &tree, index).ok()?;
+        let Ok(()) = add_lines(&mut lines, &tree, index) else {
+            return Err(Fault::NoMemory);
+        };
     }
-    Some(lines)
+    Ok(lines)
 }
 
 fn main(rt: HostRuntime) -> ExitCode {
@@ -49,11 +57,6 @@ fn main(rt: HostRuntime) -> ExitCode {
     let Ok(text) = fs::read_to_string(&rt, request.file.as_str()) else {
         return exit_code(report(&mut err, UNREADABLE));
     };
-    let Some(lines) = lines_of(rt.alloc(), request.edition, request.entry, text.as_str()) else {
-        return exit_code(report(&mut err, NO_LINES));
-    };
-    match print!(rt; "{lines}") {
-        Ok(()) => ExitCode::SUCCESS,
-        Err(_) => exit_code(report(&mut err, CANNOT_WRITE)),
-    }
+    let lines = lines_of(rt.alloc(), request.edition, request.entry, text.as_str());
+    exit_code(finish("rast_fields", lines, &mut rt.stdout(), &mut err))
 }
