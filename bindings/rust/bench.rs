@@ -4,7 +4,7 @@
 //! Each text is read by each parser in turn, several rounds over, and the least time of a text counts. The package and
 //! the Rust crate go from the text to the steps of the tree, by `LexedStr::new`, `to_input`, `parse` and
 //! `intersperse_trivia`, and write each step into memory that is kept; `rap_tree` and syn build trees of their own and
-//! drop them.
+//! drop them. Beside these both list the functions of a text, by typed views and by `Visit`, and must count the same.
 use std::hint::black_box;
 use std::time::{Duration, Instant};
 
@@ -56,7 +56,36 @@ fn by_syn(text: &str, _steps: &mut Vec<Taken>) -> Option<usize> {
     Some(black_box(&file).items.len())
 }
 
-/// The parsers that are linked, the package first.
+/// How many functions a text has, their parameters, and their types of results, by typed views.
+fn listed_by_views(text: &str, _steps: &mut Vec<Taken>) -> Option<usize> {
+    use rap_tree::ast::{AstNode, Fn};
+    use rap_tree::{Edition, TopEntryPoint, Tree};
+    let tree = Tree::of_text(Edition::LATEST, TopEntryPoint::SourceFile, text);
+    let parts = |function: Fn<'_>| {
+        let params = function.param_list().map_or(0, |it| usize::from(it.self_param().is_some()) + it.params().count());
+        1 + params + usize::from(function.ret_type().is_some())
+    };
+    Some(tree.root().descendants().filter_map(Fn::cast).map(parts).sum())
+}
+
+/// The same by syn.
+#[cfg(feature = "syn")]
+fn listed_by_syn(text: &str, _steps: &mut Vec<Taken>) -> Option<usize> {
+    use syn_crate::visit::{Visit, visit_signature};
+    struct Listed(usize);
+    impl<'ast> Visit<'ast> for Listed {
+        fn visit_signature(&mut self, it: &'ast syn_crate::Signature) {
+            let params = it.inputs.len() + usize::from(it.variadic.is_some());
+            self.0 += 1 + params + usize::from(matches!(it.output, syn_crate::ReturnType::Type(..)));
+            visit_signature(self, it);
+        }
+    }
+    let mut listed = Listed(0);
+    listed.visit_file(&syn_crate::parse_file(text).ok()?);
+    Some(listed.0)
+}
+
+/// The parsers that are linked, the package first, and the listings of functions.
 fn parsers() -> Vec<(&'static str, Parser)> {
     vec![
         ("package", by_package),
@@ -65,20 +94,32 @@ fn parsers() -> Vec<(&'static str, Parser)> {
         ("Rust crate", by_crate),
         #[cfg(feature = "syn")]
         ("syn", by_syn),
+        ("rap_tree, and functions by views", listed_by_views),
+        #[cfg(feature = "syn")]
+        ("syn, and functions by Visit", listed_by_syn),
     ]
+}
+
+/// Which parsers give the same number: those whose steps are counted, and those that list functions.
+fn counted(name: &str) -> Option<Parser> {
+    match name {
+        "rap_tree" | "syn" => None,
+        _ if name.contains("functions") => Some(listed_by_views),
+        _ => Some(by_package),
+    }
 }
 
 /// The least time of each parser, if all of them take the text.
 fn times_of(text: &str, rounds: usize, steps: &mut Vec<Taken>, parsers: &[(&str, Parser)]) -> Option<Vec<Duration>> {
-    let want = by_package(text, steps);
+    let wanted: Vec<_> = parsers.iter().map(|(name, _)| counted(name).and_then(|parse| parse(text, steps))).collect();
     let mut least = vec![Duration::MAX; parsers.len()];
     for _ in 0..rounds {
         for (i, (name, parse)) in parsers.iter().enumerate() {
             let begin = Instant::now();
             let count = black_box(parse(black_box(text), steps));
             least[i] = least[i].min(begin.elapsed());
-            count?;
-            assert!(matches!(*name, "rap_tree" | "syn") || count == want, "{name} gives other steps");
+            let count = count?;
+            assert!(wanted[i].is_none_or(|want| want == count), "{name} counts {count}, and not {:?}", wanted[i]);
         }
     }
     Some(least)

@@ -40,8 +40,11 @@ fn lines_of(
         Ok(tree) => tree,
         Err(fault) => return Err(fault_of(&fault)),
     };
+    let Ok(count) = u32::try_from(tree.elements().len()) else {
+        return Err(Fault::TooManyTokens);
+    };
     let mut lines = String::new(alloc);
-    for index in 0..tree.elements().len() as u32 {
+    for index in 0..count {
         let Ok(()) = add_lines(&mut lines, &tree, index) else {
             return Err(Fault::NoMemory);
         };
