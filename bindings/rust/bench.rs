@@ -4,12 +4,15 @@
 //! Each text is read by each parser in turn, several rounds over, and the least time of a text counts. The package and
 //! the Rust crate go from the text to the steps of the tree, by `LexedStr::new`, `to_input`, `parse` and
 //! `intersperse_trivia`, and write each step into memory that is kept; `rap_tree` and syn build trees of their own and
-//! drop them. Beside these both list the functions of a text, by typed views and by `Visit`, and must count the same.
+//! drop them. Beside these both list the functions of a text, by typed views and by `Visit`, and must count the same. At
+//! the end an accessor is timed beside a loop over children.
 use std::hint::black_box;
 use std::time::{Duration, Instant};
 
 /// A step, as whoever builds a tree takes it: a number for what it is, and the bytes of its text.
 type Taken = (u32, usize, usize);
+
+type Function<'t> = rap_tree::ast::Fn<'t>;
 
 type Parser = fn(&str, &mut Vec<Taken>) -> Option<usize>;
 
@@ -58,14 +61,14 @@ fn by_syn(text: &str, _steps: &mut Vec<Taken>) -> Option<usize> {
 
 /// How many functions a text has, their parameters, and their types of results, by typed views.
 fn listed_by_views(text: &str, _steps: &mut Vec<Taken>) -> Option<usize> {
-    use rap_tree::ast::{AstNode, Fn};
+    use rap_tree::ast::AstNode;
     use rap_tree::{Edition, TopEntryPoint, Tree};
     let tree = Tree::of_text(Edition::LATEST, TopEntryPoint::SourceFile, text);
-    let parts = |function: Fn<'_>| {
+    let parts = |function: Function<'_>| {
         let params = function.param_list().map_or(0, |it| usize::from(it.self_param().is_some()) + it.params().count());
         1 + params + usize::from(function.ret_type().is_some())
     };
-    Some(tree.root().descendants().filter_map(Fn::cast).map(parts).sum())
+    Some(tree.root().descendants().filter_map(Function::cast).map(parts).sum())
 }
 
 /// The same by syn.
@@ -125,14 +128,46 @@ fn times_of(text: &str, rounds: usize, steps: &mut Vec<Taken>, parsers: &[(&str,
     Some(least)
 }
 
+/// How long it takes to look for something in each of some functions, in nanoseconds: the least of some rounds.
+fn each<'t, T>(rounds: usize, functions: &[Function<'t>], look: impl Fn(Function<'t>) -> T) -> f64 {
+    let time = |_| {
+        let begin = Instant::now();
+        functions.iter().for_each(|it| drop(black_box(look(black_box(*it)))));
+        begin.elapsed()
+    };
+    let least = (0..rounds).map(time).min().unwrap_or_default();
+    least.as_secs_f64() * 1e9 / functions.len().max(1) as f64
+}
+
+/// The first child of a function that is of a kind.
+fn by_kind<'t>(function: Function<'t>, kind: rap_tree::SyntaxKind) -> Option<rap_tree::Node<'t>> {
+    rap_tree::ast::AstNode::syntax(function).children().find(|it| it.kind() == kind)
+}
+
+/// Prints how long an accessor takes, and the loop over the children by their kinds that it stands for.
+fn print_accessors(rounds: usize, files: &[String]) {
+    use rap_tree::ast::{AstNode, HasName};
+    use rap_tree::{Edition, SyntaxKind, TopEntryPoint, Tree};
+    let texts = files.iter().filter_map(|file| std::fs::read_to_string(file).ok());
+    let trees: Vec<Tree> = texts.map(|text| Tree::of_text(Edition::LATEST, TopEntryPoint::SourceFile, text)).collect();
+    let functions: Vec<Function<'_>> =
+        trees.iter().flat_map(|tree| tree.root().descendants().filter_map(Function::cast)).collect();
+    let name = [each(rounds, &functions, |it| it.name()), each(rounds, &functions, |it| by_kind(it, SyntaxKind::NAME))];
+    let body =
+        [each(rounds, &functions, |it| it.body()), each(rounds, &functions, |it| by_kind(it, SyntaxKind::BLOCK_EXPR))];
+    println!("{} functions; name(): {:.1} ns, by kinds {:.1}", functions.len(), name[0], name[1]);
+    println!("body(): {:.1} ns, by kinds {:.1}", body[0], body[1]);
+}
+
 fn run() {
     let mut words = std::env::args().skip(1);
     let rounds = words.next().and_then(|word| word.parse().ok()).expect("the number of rounds comes first");
     let parsers = parsers();
     let (mut files, mut bytes, mut left_out, mut steps) = (0, 0, 0, Vec::new());
     let mut sums = vec![Duration::ZERO; parsers.len()];
-    for file in words {
-        let text = std::fs::read_to_string(&file).ok();
+    let names: Vec<String> = words.collect();
+    for file in &names {
+        let text = std::fs::read_to_string(file).ok();
         match text.as_ref().and_then(|text| times_of(text, rounds, &mut steps, &parsers)) {
             Some(times) => {
                 files += 1;
@@ -150,6 +185,7 @@ fn run() {
         let shown = format!("the package takes {:.3} of it, rap_tree {:.3}", ratios[0], ratios[1]);
         println!("{name}: {:.1} ms, {speed:.1} MB/s; {shown}", 1e3 * seconds);
     }
+    print_accessors(rounds, &names);
 }
 
 fn main() {
