@@ -51,23 +51,24 @@ def constants(views: Views, _said: dict[str, str]) -> list[str]:
 
 def name_table(views: Views, _said: dict[str, str]) -> list[str]:
     """field/names.rt."""
-    rows = [f'    "{it}",' for it in names(views)]
-    return ['//! The names of all fields.', 'ghost use Rattle.std.specs.Prelude.{◌≡◌, List, ℕ, map};',
-            'ghost use Rattle.rap_fields.specs.FieldNames.{names};', '',
-            '/// Returns the names of all fields by their numbers. The number 0, of no field, has the empty name.',
-            f"pub fn names() -> &'static [&'static str; {len(rows)}]",
-            '    ensures { map {B = List ℕ} (λ name. name.now) result.now ≡ names }', '{', '    &NAMES', '}', '',
-            f'static NAMES: [&str; {len(rows)}] = [', *rows, '];']
+    rows = [f'{it.upper()}\0"{it}"' for it in names(views)[1:]]
+    return ['//! The names of all fields, each with the number of its constant.', 'use super::Field;', '',
+            '/// The constants that are so called, each as its name and its number, behind what stands for no field.',
+            'macro_rules! numbered {',
+            '    ($($constant:ident $name:literal)*) => { [("", 0), $(($name, Field::$constant.number)),*] };', '}', '',
+            '/// The name and the number of the constant of each field, and at 0 of none.',
+            f'pub static NUMBERED: [(&str, u16); {len(rows) + 1}] = numbered![', *lined(rows), '];']
 
 
 def numbers(views: Views, _said: dict[str, str]) -> list[str]:
     """FieldNames.antt."""
     rows = [(name, at) for at, name in enumerate(names(views)) if at]
+    words = [*(f'(codes\0"{it}",\0{it.upper() or 0})\0∷' for it in names(views)), '[]']
     return ['-- The numbers of all fields, and their names in the order of the numbers.',
-            'use Rattle.std.specs.Prelude.{ℕ, List, [], ◌∷◌, codes}',
+            'use Rattle.std.specs.Prelude.{ℕ, List, [], ◌∷◌, codes, map}',
             *(line for name, at in rows for line in ('', f'abbrev pub {name.upper()} : ℕ', f'{name.upper()} = {at}')),
-            '', '-- no field has the number 0', 'abbrev pub names : List (List ℕ)',
-            filled('names =', [f'codes\0"{it}"\0∷' for it in names(views)] + ['[]'])]
+            '', '-- no field has the number 0', 'abbrev pub numbered : List (List ℕ × ℕ)', filled('numbered =', words),
+            '', 'abbrev pub names : List (List ℕ)', 'names = map (λ row. row.0) numbered']
 
 
 class Rules:

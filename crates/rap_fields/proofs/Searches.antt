@@ -3,8 +3,9 @@
 use Rattle.std.proofs.Common.{◌≡◌, ◌≢◌, ℕ, ◌+◌, ◌<◌, ◌≤◌, ◌==◌, ◌||◌, length, get_or, drop, map, true, false, Bool, Bor, List, [], ◌∷◌, if◌then◌else◌, refl, sym, ap, ◌∙◌, arith}
 use Rattle.std.proofs.lemmas.Bool.{eq-eqb, eqb-true}
 use Rattle.std.proofs.lemmas.List.{drop_more, get_or-map, length-map}
+use Rattle.std.proofs.lemmas.Simd.{map-map}
 use Rattle.std.specs.Prelude.{slice_index_or}
-use Rattle.rap_fields.specs.FieldNames.{YIELD_TOKEN, names}
+use Rattle.rap_fields.specs.FieldNames.{YIELD_TOKEN, names, numbered}
 use Rattle.rap_fields.specs.Rule.{Look, Row, look_of, of_field}
 use Rattle.rap_fields.specs.RuleOf.{name_of}
 use Rattle.rap_fields.specs.declared.rule.Step.{Step}
@@ -49,9 +50,18 @@ rule_later f rows i none l n =
     ap (λ (rs : List (ℕ × Bor (List Step))). of_field f (map row_seen rs)) (drop_more rows i none l)
     ∙ field_later f (row_seen (get_or rows i none)) (map row_seen (drop (i + 1) rows)) n
 
--- the text at a field's number is its name, where the table's texts are the names
-pub name_at : (table : List (Bor (List ℕ))) (i : ℕ) (none : Bor (List ℕ)) → map (λ name. name.now) table ≡ names →
-    i ≤ YIELD_TOKEN → (get_or table i none).now ≡ name_of i
-name_at table i none rows last =
-    let long : length table ≡ 226 = sym (length-map table (λ name. name.now)) ∙ ap length rows in
-    sym (get_or-map (λ name. name.now) table i none [] (omega arith)) ∙ ap (λ texts. slice_index_or texts i []) rows
+-- a row of the table of names as contracts see it
+abbrev named_row : Bor (List ℕ) × ℕ → List ℕ × ℕ
+named_row row = (row.0.now, row.1)
+
+-- the text at a field's number is its name, where the table's rows are the names and the numbers
+pub name_at : (table : List (Bor (List ℕ) × ℕ)) (number field : ℕ) (none : Bor (List ℕ) × ℕ) →
+    map named_row table ≡ numbered → number ≡ field → field ≤ YIELD_TOKEN →
+    (slice_index_or table number none).0.now ≡ name_of field
+name_at table number field none rows same last =
+    let long : length table ≡ 226 = sym (length-map table named_row) ∙ ap length rows in
+    let texts : map (λ row. row.0.now) table ≡ names =
+    sym (map-map (λ row. row.0) named_row table) ∙ ap (λ l. map (λ row. row.0) l) rows in
+    sym (get_or-map (λ row. row.0.now) table number none [] (omega arith))
+    ∙ ap (λ l. slice_index_or l number []) texts
+    ∙ ap name_of same

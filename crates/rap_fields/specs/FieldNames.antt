@@ -1,6 +1,6 @@
 -- Written by crates/rap_base/fields from fields.txt beside it and the shapes of nodes: an edit here is lost.
 -- The numbers of all fields, and their names in the order of the numbers.
-use Rattle.std.specs.Prelude.{ℕ, List, [], ◌∷◌, codes}
+use Rattle.std.specs.Prelude.{ℕ, List, [], ◌∷◌, codes, map}
 
 abbrev pub ABI : ℕ
 ABI = 1
@@ -678,52 +678,94 @@ abbrev pub YIELD_TOKEN : ℕ
 YIELD_TOKEN = 225
 
 -- no field has the number 0
+abbrev pub numbered : List (List ℕ × ℕ)
+numbered =
+    (codes "", 0) ∷ (codes "abi", ABI) ∷ (codes "amp_token", AMP_TOKEN) ∷ (codes "arg_list", ARG_LIST) ∷
+    (codes "args", ARGS) ∷ (codes "arms", ARMS) ∷ (codes "as_token", AS_TOKEN) ∷ (codes "asm_dir_spec", ASM_DIR_SPEC) ∷
+    (codes "asm_operand", ASM_OPERAND) ∷ (codes "asm_operand_expr", ASM_OPERAND_EXPR) ∷
+    (codes "asm_options", ASM_OPTIONS) ∷ (codes "asm_pieces", ASM_PIECES) ∷ (codes "asm_reg_spec", ASM_REG_SPEC) ∷
+    (codes "asm_token", ASM_TOKEN) ∷ (codes "assoc_item_list", ASSOC_ITEM_LIST) ∷ (codes "assoc_items", ASSOC_ITEMS) ∷
+    (codes "async_token", ASYNC_TOKEN) ∷ (codes "at_token", AT_TOKEN) ∷ (codes "att_syntax_token", ATT_SYNTAX_TOKEN) ∷
+    (codes "attrs", ATTRS) ∷ (codes "auto_token", AUTO_TOKEN) ∷ (codes "await_token", AWAIT_TOKEN) ∷
+    (codes "base", BASE) ∷ (codes "become_token", BECOME_TOKEN) ∷ (codes "bikeshed_token", BIKESHED_TOKEN) ∷
+    (codes "block_expr", BLOCK_EXPR) ∷ (codes "body", BODY) ∷ (codes "bounds", BOUNDS) ∷
+    (codes "box_token", BOX_TOKEN) ∷ (codes "break_token", BREAK_TOKEN) ∷ (codes "builtin_token", BUILTIN_TOKEN) ∷
+    (codes "cfg_attr_token", CFG_ATTR_TOKEN) ∷ (codes "cfg_predicate", CFG_PREDICATE) ∷
+    (codes "cfg_predicates", CFG_PREDICATES) ∷ (codes "cfg_token", CFG_TOKEN) ∷
+    (codes "clobber_abi_token", CLOBBER_ABI_TOKEN) ∷ (codes "colon_token", COLON_TOKEN) ∷
+    (codes "coloncolon_token", COLONCOLON_TOKEN) ∷ (codes "comma_token", COMMA_TOKEN) ∷ (codes "condition", CONDITION) ∷
+    (codes "const_arg", CONST_ARG) ∷ (codes "const_token", CONST_TOKEN) ∷ (codes "continue_token", CONTINUE_TOKEN) ∷
+    (codes "crate_token", CRATE_TOKEN) ∷ (codes "default_token", DEFAULT_TOKEN) ∷ (codes "default_type", DEFAULT_TYPE) ∷
+    (codes "default_val", DEFAULT_VAL) ∷ (codes "deref_token", DEREF_TOKEN) ∷ (codes "do_token", DO_TOKEN) ∷
+    (codes "doc_comments", DOC_COMMENTS) ∷ (codes "dot_token", DOT_TOKEN) ∷ (codes "dotdot_token", DOTDOT_TOKEN) ∷
+    (codes "dotdotdot_token", DOTDOTDOT_TOKEN) ∷ (codes "dyn_token", DYN_TOKEN) ∷ (codes "else_branch", ELSE_BRANCH) ∷
+    (codes "else_token", ELSE_TOKEN) ∷ (codes "end", END) ∷ (codes "enum_token", ENUM_TOKEN) ∷
+    (codes "eq_token", EQ_TOKEN) ∷ (codes "excl_token", EXCL_TOKEN) ∷ (codes "expr", EXPR) ∷ (codes "exprs", EXPRS) ∷
+    (codes "extern_item_list", EXTERN_ITEM_LIST) ∷ (codes "extern_items", EXTERN_ITEMS) ∷
+    (codes "extern_token", EXTERN_TOKEN) ∷ (codes "false_token", FALSE_TOKEN) ∷
+    (codes "fat_arrow_token", FAT_ARROW_TOKEN) ∷ (codes "field_list", FIELD_LIST) ∷ (codes "fields", FIELDS) ∷
+    (codes "fn_token", FN_TOKEN) ∷ (codes "for_binder", FOR_BINDER) ∷ (codes "for_token", FOR_TOKEN) ∷
+    (codes "format_args_token", FORMAT_ARGS_TOKEN) ∷ (codes "frontmatter_token", FRONTMATTER_TOKEN) ∷
+    (codes "gen_token", GEN_TOKEN) ∷ (codes "generic_arg_list", GENERIC_ARG_LIST) ∷
+    (codes "generic_args", GENERIC_ARGS) ∷ (codes "generic_param_list", GENERIC_PARAM_LIST) ∷
+    (codes "generic_params", GENERIC_PARAMS) ∷ (codes "global_asm_token", GLOBAL_ASM_TOKEN) ∷ (codes "guard", GUARD) ∷
+    (codes "ident_token", IDENT_TOKEN) ∷ (codes "if_token", IF_TOKEN) ∷ (codes "impl_restriction", IMPL_RESTRICTION) ∷
+    (codes "impl_token", IMPL_TOKEN) ∷ (codes "in_expr", IN_EXPR) ∷ (codes "in_token", IN_TOKEN) ∷
+    (codes "include_bytes_token", INCLUDE_BYTES_TOKEN) ∷ (codes "index", INDEX) ∷ (codes "initializer", INITIALIZER) ∷
+    (codes "inlateout_token", INLATEOUT_TOKEN) ∷ (codes "inner_doc_comment_token", INNER_DOC_COMMENT_TOKEN) ∷
+    (codes "inout_token", INOUT_TOKEN) ∷ (codes "int_number_token", INT_NUMBER_TOKEN) ∷ (codes "is_token", IS_TOKEN) ∷
+    (codes "item_list", ITEM_LIST) ∷ (codes "items", ITEMS) ∷ (codes "iterable", ITERABLE) ∷
+    (codes "l_angle_token", L_ANGLE_TOKEN) ∷ (codes "l_brack_token", L_BRACK_TOKEN) ∷
+    (codes "l_curly_token", L_CURLY_TOKEN) ∷ (codes "l_paren_token", L_PAREN_TOKEN) ∷ (codes "label", LABEL) ∷
+    (codes "label_token", LABEL_TOKEN) ∷ (codes "lateout_token", LATEOUT_TOKEN) ∷ (codes "let_else", LET_ELSE) ∷
+    (codes "let_token", LET_TOKEN) ∷ (codes "lhs", LHS) ∷ (codes "lifetime", LIFETIME) ∷
+    (codes "lifetime_ident_token", LIFETIME_IDENT_TOKEN) ∷ (codes "literal", LITERAL) ∷ (codes "loop_body", LOOP_BODY) ∷
+    (codes "loop_token", LOOP_TOKEN) ∷ (codes "macro_call", MACRO_CALL) ∷
+    (codes "macro_rules_token", MACRO_RULES_TOKEN) ∷ (codes "macro_token", MACRO_TOKEN) ∷
+    (codes "match_arm_list", MATCH_ARM_LIST) ∷ (codes "match_token", MATCH_TOKEN) ∷
+    (codes "may_unwind_token", MAY_UNWIND_TOKEN) ∷ (codes "meta", META) ∷ (codes "metas", METAS) ∷
+    (codes "minus_token", MINUS_TOKEN) ∷ (codes "mod_token", MOD_TOKEN) ∷ (codes "move_token", MOVE_TOKEN) ∷
+    (codes "mut_restriction", MUT_RESTRICTION) ∷ (codes "mut_token", MUT_TOKEN) ∷
+    (codes "naked_asm_token", NAKED_ASM_TOKEN) ∷ (codes "name", NAME) ∷ (codes "name_ref", NAME_REF) ∷
+    (codes "nomem_token", NOMEM_TOKEN) ∷ (codes "noreturn_token", NORETURN_TOKEN) ∷
+    (codes "nostack_token", NOSTACK_TOKEN) ∷ (codes "offset_of_token", OFFSET_OF_TOKEN) ∷ (codes "op_token", OP_TOKEN) ∷
+    (codes "options_token", OPTIONS_TOKEN) ∷ (codes "out_expr", OUT_EXPR) ∷ (codes "out_token", OUT_TOKEN) ∷
+    (codes "outer_doc_comment_token", OUTER_DOC_COMMENT_TOKEN) ∷ (codes "param_list", PARAM_LIST) ∷
+    (codes "params", PARAMS) ∷ (codes "parenthesized_arg_list", PARENTHESIZED_ARG_LIST) ∷ (codes "pat", PAT) ∷
+    (codes "path", PATH) ∷ (codes "path_type", PATH_TYPE) ∷ (codes "pats", PATS) ∷
+    (codes "pattern_type_token", PATTERN_TYPE_TOKEN) ∷ (codes "pipe_token", PIPE_TOKEN) ∷
+    (codes "pound_token", POUND_TOKEN) ∷ (codes "predicates", PREDICATES) ∷
+    (codes "preserves_flags_token", PRESERVES_FLAGS_TOKEN) ∷ (codes "pub_token", PUB_TOKEN) ∷
+    (codes "pure_token", PURE_TOKEN) ∷ (codes "qualifier", QUALIFIER) ∷
+    (codes "question_mark_token", QUESTION_MARK_TOKEN) ∷ (codes "r_angle_token", R_ANGLE_TOKEN) ∷
+    (codes "r_brack_token", R_BRACK_TOKEN) ∷ (codes "r_curly_token", R_CURLY_TOKEN) ∷
+    (codes "r_paren_token", R_PAREN_TOKEN) ∷ (codes "raw_token", RAW_TOKEN) ∷ (codes "readonly_token", READONLY_TOKEN) ∷
+    (codes "receiver", RECEIVER) ∷ (codes "record_expr_field_list", RECORD_EXPR_FIELD_LIST) ∷
+    (codes "record_field_list", RECORD_FIELD_LIST) ∷ (codes "record_pat_field_list", RECORD_PAT_FIELD_LIST) ∷
+    (codes "ref_token", REF_TOKEN) ∷ (codes "rename", RENAME) ∷ (codes "repeat", REPEAT) ∷
+    (codes "rest_pat", REST_PAT) ∷ (codes "ret_type", RET_TYPE) ∷ (codes "return_token", RETURN_TOKEN) ∷
+    (codes "return_type_syntax", RETURN_TYPE_SYNTAX) ∷ (codes "rhs", RHS) ∷ (codes "safe_token", SAFE_TOKEN) ∷
+    (codes "segment", SEGMENT) ∷ (codes "self_param", SELF_PARAM) ∷ (codes "self_token", SELF_TOKEN) ∷
+    (codes "self_ty", SELF_TY) ∷ (codes "self_type_token", SELF_TYPE_TOKEN) ∷
+    (codes "semicolon_token", SEMICOLON_TOKEN) ∷ (codes "shebang_token", SHEBANG_TOKEN) ∷ (codes "spread", SPREAD) ∷
+    (codes "star_token", STAR_TOKEN) ∷ (codes "start", START) ∷ (codes "statements", STATEMENTS) ∷
+    (codes "static_token", STATIC_TOKEN) ∷ (codes "stmt_list", STMT_LIST) ∷ (codes "string_token", STRING_TOKEN) ∷
+    (codes "struct_token", STRUCT_TOKEN) ∷ (codes "super_token", SUPER_TOKEN) ∷ (codes "sym_token", SYM_TOKEN) ∷
+    (codes "tail_expr", TAIL_EXPR) ∷ (codes "template", TEMPLATE) ∷ (codes "then_branch", THEN_BRANCH) ∷
+    (codes "thin_arrow_token", THIN_ARROW_TOKEN) ∷ (codes "tilde_token", TILDE_TOKEN) ∷ (codes "token", TOKEN) ∷
+    (codes "token_tree", TOKEN_TREE) ∷ (codes "token_trees", TOKEN_TREES) ∷
+    (codes "trailing_where_clause", TRAILING_WHERE_CLAUSE) ∷ (codes "trait_", TRAIT_) ∷
+    (codes "trait_token", TRAIT_TOKEN) ∷ (codes "true_token", TRUE_TOKEN) ∷
+    (codes "try_block_modifier", TRY_BLOCK_MODIFIER) ∷ (codes "try_token", TRY_TOKEN) ∷ (codes "ty", TY) ∷
+    (codes "type_anchor", TYPE_ANCHOR) ∷ (codes "type_args", TYPE_ARGS) ∷ (codes "type_bound_list", TYPE_BOUND_LIST) ∷
+    (codes "type_token", TYPE_TOKEN) ∷ (codes "underscore_token", UNDERSCORE_TOKEN) ∷
+    (codes "union_token", UNION_TOKEN) ∷ (codes "unsafe_token", UNSAFE_TOKEN) ∷
+    (codes "use_bound_generic_args", USE_BOUND_GENERIC_ARGS) ∷ (codes "use_token", USE_TOKEN) ∷
+    (codes "use_tree", USE_TREE) ∷ (codes "use_tree_list", USE_TREE_LIST) ∷ (codes "use_trees", USE_TREES) ∷
+    (codes "variant_list", VARIANT_LIST) ∷ (codes "variants", VARIANTS) ∷ (codes "visibility", VISIBILITY) ∷
+    (codes "visibility_inner", VISIBILITY_INNER) ∷ (codes "where_clause", WHERE_CLAUSE) ∷
+    (codes "where_token", WHERE_TOKEN) ∷ (codes "while_token", WHILE_TOKEN) ∷ (codes "yeet_token", YEET_TOKEN) ∷
+    (codes "yield_token", YIELD_TOKEN) ∷ []
+
 abbrev pub names : List (List ℕ)
-names =
-    codes "" ∷ codes "abi" ∷ codes "amp_token" ∷ codes "arg_list" ∷ codes "args" ∷ codes "arms" ∷ codes "as_token" ∷
-    codes "asm_dir_spec" ∷ codes "asm_operand" ∷ codes "asm_operand_expr" ∷ codes "asm_options" ∷ codes "asm_pieces" ∷
-    codes "asm_reg_spec" ∷ codes "asm_token" ∷ codes "assoc_item_list" ∷ codes "assoc_items" ∷ codes "async_token" ∷
-    codes "at_token" ∷ codes "att_syntax_token" ∷ codes "attrs" ∷ codes "auto_token" ∷ codes "await_token" ∷
-    codes "base" ∷ codes "become_token" ∷ codes "bikeshed_token" ∷ codes "block_expr" ∷ codes "body" ∷ codes "bounds" ∷
-    codes "box_token" ∷ codes "break_token" ∷ codes "builtin_token" ∷ codes "cfg_attr_token" ∷ codes "cfg_predicate" ∷
-    codes "cfg_predicates" ∷ codes "cfg_token" ∷ codes "clobber_abi_token" ∷ codes "colon_token" ∷
-    codes "coloncolon_token" ∷ codes "comma_token" ∷ codes "condition" ∷ codes "const_arg" ∷ codes "const_token" ∷
-    codes "continue_token" ∷ codes "crate_token" ∷ codes "default_token" ∷ codes "default_type" ∷ codes "default_val" ∷
-    codes "deref_token" ∷ codes "do_token" ∷ codes "doc_comments" ∷ codes "dot_token" ∷ codes "dotdot_token" ∷
-    codes "dotdotdot_token" ∷ codes "dyn_token" ∷ codes "else_branch" ∷ codes "else_token" ∷ codes "end" ∷
-    codes "enum_token" ∷ codes "eq_token" ∷ codes "excl_token" ∷ codes "expr" ∷ codes "exprs" ∷
-    codes "extern_item_list" ∷ codes "extern_items" ∷ codes "extern_token" ∷ codes "false_token" ∷
-    codes "fat_arrow_token" ∷ codes "field_list" ∷ codes "fields" ∷ codes "fn_token" ∷ codes "for_binder" ∷
-    codes "for_token" ∷ codes "format_args_token" ∷ codes "frontmatter_token" ∷ codes "gen_token" ∷
-    codes "generic_arg_list" ∷ codes "generic_args" ∷ codes "generic_param_list" ∷ codes "generic_params" ∷
-    codes "global_asm_token" ∷ codes "guard" ∷ codes "ident_token" ∷ codes "if_token" ∷ codes "impl_restriction" ∷
-    codes "impl_token" ∷ codes "in_expr" ∷ codes "in_token" ∷ codes "include_bytes_token" ∷ codes "index" ∷
-    codes "initializer" ∷ codes "inlateout_token" ∷ codes "inner_doc_comment_token" ∷ codes "inout_token" ∷
-    codes "int_number_token" ∷ codes "is_token" ∷ codes "item_list" ∷ codes "items" ∷ codes "iterable" ∷
-    codes "l_angle_token" ∷ codes "l_brack_token" ∷ codes "l_curly_token" ∷ codes "l_paren_token" ∷ codes "label" ∷
-    codes "label_token" ∷ codes "lateout_token" ∷ codes "let_else" ∷ codes "let_token" ∷ codes "lhs" ∷
-    codes "lifetime" ∷ codes "lifetime_ident_token" ∷ codes "literal" ∷ codes "loop_body" ∷ codes "loop_token" ∷
-    codes "macro_call" ∷ codes "macro_rules_token" ∷ codes "macro_token" ∷ codes "match_arm_list" ∷
-    codes "match_token" ∷ codes "may_unwind_token" ∷ codes "meta" ∷ codes "metas" ∷ codes "minus_token" ∷
-    codes "mod_token" ∷ codes "move_token" ∷ codes "mut_restriction" ∷ codes "mut_token" ∷ codes "naked_asm_token" ∷
-    codes "name" ∷ codes "name_ref" ∷ codes "nomem_token" ∷ codes "noreturn_token" ∷ codes "nostack_token" ∷
-    codes "offset_of_token" ∷ codes "op_token" ∷ codes "options_token" ∷ codes "out_expr" ∷ codes "out_token" ∷
-    codes "outer_doc_comment_token" ∷ codes "param_list" ∷ codes "params" ∷ codes "parenthesized_arg_list" ∷
-    codes "pat" ∷ codes "path" ∷ codes "path_type" ∷ codes "pats" ∷ codes "pattern_type_token" ∷ codes "pipe_token" ∷
-    codes "pound_token" ∷ codes "predicates" ∷ codes "preserves_flags_token" ∷ codes "pub_token" ∷ codes "pure_token" ∷
-    codes "qualifier" ∷ codes "question_mark_token" ∷ codes "r_angle_token" ∷ codes "r_brack_token" ∷
-    codes "r_curly_token" ∷ codes "r_paren_token" ∷ codes "raw_token" ∷ codes "readonly_token" ∷ codes "receiver" ∷
-    codes "record_expr_field_list" ∷ codes "record_field_list" ∷ codes "record_pat_field_list" ∷ codes "ref_token" ∷
-    codes "rename" ∷ codes "repeat" ∷ codes "rest_pat" ∷ codes "ret_type" ∷ codes "return_token" ∷
-    codes "return_type_syntax" ∷ codes "rhs" ∷ codes "safe_token" ∷ codes "segment" ∷ codes "self_param" ∷
-    codes "self_token" ∷ codes "self_ty" ∷ codes "self_type_token" ∷ codes "semicolon_token" ∷ codes "shebang_token" ∷
-    codes "spread" ∷ codes "star_token" ∷ codes "start" ∷ codes "statements" ∷ codes "static_token" ∷
-    codes "stmt_list" ∷ codes "string_token" ∷ codes "struct_token" ∷ codes "super_token" ∷ codes "sym_token" ∷
-    codes "tail_expr" ∷ codes "template" ∷ codes "then_branch" ∷ codes "thin_arrow_token" ∷ codes "tilde_token" ∷
-    codes "token" ∷ codes "token_tree" ∷ codes "token_trees" ∷ codes "trailing_where_clause" ∷ codes "trait_" ∷
-    codes "trait_token" ∷ codes "true_token" ∷ codes "try_block_modifier" ∷ codes "try_token" ∷ codes "ty" ∷
-    codes "type_anchor" ∷ codes "type_args" ∷ codes "type_bound_list" ∷ codes "type_token" ∷ codes "underscore_token" ∷
-    codes "union_token" ∷ codes "unsafe_token" ∷ codes "use_bound_generic_args" ∷ codes "use_token" ∷ codes "use_tree" ∷
-    codes "use_tree_list" ∷ codes "use_trees" ∷ codes "variant_list" ∷ codes "variants" ∷ codes "visibility" ∷
-    codes "visibility_inner" ∷ codes "where_clause" ∷ codes "where_token" ∷ codes "while_token" ∷ codes "yeet_token" ∷
-    codes "yield_token" ∷ []
+names = map (λ row. row.0) numbered

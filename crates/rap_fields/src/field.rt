@@ -1,9 +1,11 @@
 //! The names of fields.
-ghost use Rattle.std.specs.Prelude.{◌≡◌, ◌⊎◌, ℕ, ◌<◌, ◌≤◌, MatchOption, Some, map};
-ghost use Rattle.rap_fields.specs.FieldNames.{YIELD_TOKEN};
+ghost use Rattle.std.specs.Prelude.{◌≡◌, ◌⊎◌, List, ℕ, ◌<◌, ◌≤◌, MatchOption, Some, map};
+ghost use Rattle.std.specs.List.{range_with_len};
+ghost use Rattle.rap_fields.specs.FieldNames.{YIELD_TOKEN, numbered};
 ghost use Rattle.rap_fields.specs.Rule.{look_of};
 ghost use Rattle.rap_fields.specs.RuleOf.{name_of, rule_of};
 
+use self::names::NUMBERED;
 use crate::rule::Step;
 use crate::rules::rows_of;
 use rap_base::syntax_kind::SyntaxKind;
@@ -64,7 +66,19 @@ impl Field {
     pub fn name(self) -> &'static str
         ensures { result.now ≡ name_of self }
     {
-        names::names()[usize::from(self.number)]
+        Field::numbered()[usize::from(self.number)].0
+    }
+
+    /// Returns the names of all fields in the order of their numbers, each with the number of the constant of that name.
+    /// At 0 stands an empty name.
+    ///
+    /// The first two clauses speak of the constants themselves, as those of `SyntaxKind::numbered` do.
+    pub fn numbered() -> &'static [(&'static str, u16); 226]
+        ensures constants { map {B = List ℕ × ℕ} (λ row. (row.0.now, row.1)) NUMBERED ≡ numbered }
+        ensures order { map (λ row. row.1) NUMBERED ≡ range_with_len 0 226 }
+        ensures table { map {B = List ℕ × ℕ} (λ row. (row.0.now, row.1)) result.now ≡ numbered }
+    {
+        &NUMBERED
     }
 
     /// The rule by which it is found in nodes of a kind: steps, of which the last finds its children. There are none

@@ -1,240 +1,69 @@
 // Written by crates/rap_base/fields from fields.txt beside it and the shapes of nodes: an edit here is lost.
-//! The names of all fields.
-ghost use Rattle.std.specs.Prelude.{◌≡◌, List, ℕ, map};
-ghost use Rattle.rap_fields.specs.FieldNames.{names};
+//! The names of all fields, each with the number of its constant.
+use super::Field;
 
-/// Returns the names of all fields by their numbers. The number 0, of no field, has the empty name.
-pub fn names() -> &'static [&'static str; 226]
-    ensures { map {B = List ℕ} (λ name. name.now) result.now ≡ names }
-{
-    &NAMES
+/// The constants that are so called, each as its name and its number, behind what stands for no field.
+macro_rules! numbered {
+    ($($constant:ident $name:literal)*) => { [("", 0), $(($name, Field::$constant.number)),*] };
 }
 
-static NAMES: [&str; 226] = [
-    "",
-    "abi",
-    "amp_token",
-    "arg_list",
-    "args",
-    "arms",
-    "as_token",
-    "asm_dir_spec",
-    "asm_operand",
-    "asm_operand_expr",
-    "asm_options",
-    "asm_pieces",
-    "asm_reg_spec",
-    "asm_token",
-    "assoc_item_list",
-    "assoc_items",
-    "async_token",
-    "at_token",
-    "att_syntax_token",
-    "attrs",
-    "auto_token",
-    "await_token",
-    "base",
-    "become_token",
-    "bikeshed_token",
-    "block_expr",
-    "body",
-    "bounds",
-    "box_token",
-    "break_token",
-    "builtin_token",
-    "cfg_attr_token",
-    "cfg_predicate",
-    "cfg_predicates",
-    "cfg_token",
-    "clobber_abi_token",
-    "colon_token",
-    "coloncolon_token",
-    "comma_token",
-    "condition",
-    "const_arg",
-    "const_token",
-    "continue_token",
-    "crate_token",
-    "default_token",
-    "default_type",
-    "default_val",
-    "deref_token",
-    "do_token",
-    "doc_comments",
-    "dot_token",
-    "dotdot_token",
-    "dotdotdot_token",
-    "dyn_token",
-    "else_branch",
-    "else_token",
-    "end",
-    "enum_token",
-    "eq_token",
-    "excl_token",
-    "expr",
-    "exprs",
-    "extern_item_list",
-    "extern_items",
-    "extern_token",
-    "false_token",
-    "fat_arrow_token",
-    "field_list",
-    "fields",
-    "fn_token",
-    "for_binder",
-    "for_token",
-    "format_args_token",
-    "frontmatter_token",
-    "gen_token",
-    "generic_arg_list",
-    "generic_args",
-    "generic_param_list",
-    "generic_params",
-    "global_asm_token",
-    "guard",
-    "ident_token",
-    "if_token",
-    "impl_restriction",
-    "impl_token",
-    "in_expr",
-    "in_token",
-    "include_bytes_token",
-    "index",
-    "initializer",
-    "inlateout_token",
-    "inner_doc_comment_token",
-    "inout_token",
-    "int_number_token",
-    "is_token",
-    "item_list",
-    "items",
-    "iterable",
-    "l_angle_token",
-    "l_brack_token",
-    "l_curly_token",
-    "l_paren_token",
-    "label",
-    "label_token",
-    "lateout_token",
-    "let_else",
-    "let_token",
-    "lhs",
-    "lifetime",
-    "lifetime_ident_token",
-    "literal",
-    "loop_body",
-    "loop_token",
-    "macro_call",
-    "macro_rules_token",
-    "macro_token",
-    "match_arm_list",
-    "match_token",
-    "may_unwind_token",
-    "meta",
-    "metas",
-    "minus_token",
-    "mod_token",
-    "move_token",
-    "mut_restriction",
-    "mut_token",
-    "naked_asm_token",
-    "name",
-    "name_ref",
-    "nomem_token",
-    "noreturn_token",
-    "nostack_token",
-    "offset_of_token",
-    "op_token",
-    "options_token",
-    "out_expr",
-    "out_token",
-    "outer_doc_comment_token",
-    "param_list",
-    "params",
-    "parenthesized_arg_list",
-    "pat",
-    "path",
-    "path_type",
-    "pats",
-    "pattern_type_token",
-    "pipe_token",
-    "pound_token",
-    "predicates",
-    "preserves_flags_token",
-    "pub_token",
-    "pure_token",
-    "qualifier",
-    "question_mark_token",
-    "r_angle_token",
-    "r_brack_token",
-    "r_curly_token",
-    "r_paren_token",
-    "raw_token",
-    "readonly_token",
-    "receiver",
-    "record_expr_field_list",
-    "record_field_list",
-    "record_pat_field_list",
-    "ref_token",
-    "rename",
-    "repeat",
-    "rest_pat",
-    "ret_type",
-    "return_token",
-    "return_type_syntax",
-    "rhs",
-    "safe_token",
-    "segment",
-    "self_param",
-    "self_token",
-    "self_ty",
-    "self_type_token",
-    "semicolon_token",
-    "shebang_token",
-    "spread",
-    "star_token",
-    "start",
-    "statements",
-    "static_token",
-    "stmt_list",
-    "string_token",
-    "struct_token",
-    "super_token",
-    "sym_token",
-    "tail_expr",
-    "template",
-    "then_branch",
-    "thin_arrow_token",
-    "tilde_token",
-    "token",
-    "token_tree",
-    "token_trees",
-    "trailing_where_clause",
-    "trait_",
-    "trait_token",
-    "true_token",
-    "try_block_modifier",
-    "try_token",
-    "ty",
-    "type_anchor",
-    "type_args",
-    "type_bound_list",
-    "type_token",
-    "underscore_token",
-    "union_token",
-    "unsafe_token",
-    "use_bound_generic_args",
-    "use_token",
-    "use_tree",
-    "use_tree_list",
-    "use_trees",
-    "variant_list",
-    "variants",
-    "visibility",
-    "visibility_inner",
-    "where_clause",
-    "where_token",
-    "while_token",
-    "yeet_token",
-    "yield_token",
+/// The name and the number of the constant of each field, and at 0 of none.
+pub static NUMBERED: [(&str, u16); 226] = numbered![
+    ABI "abi" AMP_TOKEN "amp_token" ARG_LIST "arg_list" ARGS "args" ARMS "arms" AS_TOKEN "as_token"
+    ASM_DIR_SPEC "asm_dir_spec" ASM_OPERAND "asm_operand" ASM_OPERAND_EXPR "asm_operand_expr" ASM_OPTIONS "asm_options"
+    ASM_PIECES "asm_pieces" ASM_REG_SPEC "asm_reg_spec" ASM_TOKEN "asm_token" ASSOC_ITEM_LIST "assoc_item_list"
+    ASSOC_ITEMS "assoc_items" ASYNC_TOKEN "async_token" AT_TOKEN "at_token" ATT_SYNTAX_TOKEN "att_syntax_token"
+    ATTRS "attrs" AUTO_TOKEN "auto_token" AWAIT_TOKEN "await_token" BASE "base" BECOME_TOKEN "become_token"
+    BIKESHED_TOKEN "bikeshed_token" BLOCK_EXPR "block_expr" BODY "body" BOUNDS "bounds" BOX_TOKEN "box_token"
+    BREAK_TOKEN "break_token" BUILTIN_TOKEN "builtin_token" CFG_ATTR_TOKEN "cfg_attr_token"
+    CFG_PREDICATE "cfg_predicate" CFG_PREDICATES "cfg_predicates" CFG_TOKEN "cfg_token"
+    CLOBBER_ABI_TOKEN "clobber_abi_token" COLON_TOKEN "colon_token" COLONCOLON_TOKEN "coloncolon_token"
+    COMMA_TOKEN "comma_token" CONDITION "condition" CONST_ARG "const_arg" CONST_TOKEN "const_token"
+    CONTINUE_TOKEN "continue_token" CRATE_TOKEN "crate_token" DEFAULT_TOKEN "default_token" DEFAULT_TYPE "default_type"
+    DEFAULT_VAL "default_val" DEREF_TOKEN "deref_token" DO_TOKEN "do_token" DOC_COMMENTS "doc_comments"
+    DOT_TOKEN "dot_token" DOTDOT_TOKEN "dotdot_token" DOTDOTDOT_TOKEN "dotdotdot_token" DYN_TOKEN "dyn_token"
+    ELSE_BRANCH "else_branch" ELSE_TOKEN "else_token" END "end" ENUM_TOKEN "enum_token" EQ_TOKEN "eq_token"
+    EXCL_TOKEN "excl_token" EXPR "expr" EXPRS "exprs" EXTERN_ITEM_LIST "extern_item_list" EXTERN_ITEMS "extern_items"
+    EXTERN_TOKEN "extern_token" FALSE_TOKEN "false_token" FAT_ARROW_TOKEN "fat_arrow_token" FIELD_LIST "field_list"
+    FIELDS "fields" FN_TOKEN "fn_token" FOR_BINDER "for_binder" FOR_TOKEN "for_token"
+    FORMAT_ARGS_TOKEN "format_args_token" FRONTMATTER_TOKEN "frontmatter_token" GEN_TOKEN "gen_token"
+    GENERIC_ARG_LIST "generic_arg_list" GENERIC_ARGS "generic_args" GENERIC_PARAM_LIST "generic_param_list"
+    GENERIC_PARAMS "generic_params" GLOBAL_ASM_TOKEN "global_asm_token" GUARD "guard" IDENT_TOKEN "ident_token"
+    IF_TOKEN "if_token" IMPL_RESTRICTION "impl_restriction" IMPL_TOKEN "impl_token" IN_EXPR "in_expr"
+    IN_TOKEN "in_token" INCLUDE_BYTES_TOKEN "include_bytes_token" INDEX "index" INITIALIZER "initializer"
+    INLATEOUT_TOKEN "inlateout_token" INNER_DOC_COMMENT_TOKEN "inner_doc_comment_token" INOUT_TOKEN "inout_token"
+    INT_NUMBER_TOKEN "int_number_token" IS_TOKEN "is_token" ITEM_LIST "item_list" ITEMS "items" ITERABLE "iterable"
+    L_ANGLE_TOKEN "l_angle_token" L_BRACK_TOKEN "l_brack_token" L_CURLY_TOKEN "l_curly_token"
+    L_PAREN_TOKEN "l_paren_token" LABEL "label" LABEL_TOKEN "label_token" LATEOUT_TOKEN "lateout_token"
+    LET_ELSE "let_else" LET_TOKEN "let_token" LHS "lhs" LIFETIME "lifetime" LIFETIME_IDENT_TOKEN "lifetime_ident_token"
+    LITERAL "literal" LOOP_BODY "loop_body" LOOP_TOKEN "loop_token" MACRO_CALL "macro_call"
+    MACRO_RULES_TOKEN "macro_rules_token" MACRO_TOKEN "macro_token" MATCH_ARM_LIST "match_arm_list"
+    MATCH_TOKEN "match_token" MAY_UNWIND_TOKEN "may_unwind_token" META "meta" METAS "metas" MINUS_TOKEN "minus_token"
+    MOD_TOKEN "mod_token" MOVE_TOKEN "move_token" MUT_RESTRICTION "mut_restriction" MUT_TOKEN "mut_token"
+    NAKED_ASM_TOKEN "naked_asm_token" NAME "name" NAME_REF "name_ref" NOMEM_TOKEN "nomem_token"
+    NORETURN_TOKEN "noreturn_token" NOSTACK_TOKEN "nostack_token" OFFSET_OF_TOKEN "offset_of_token" OP_TOKEN "op_token"
+    OPTIONS_TOKEN "options_token" OUT_EXPR "out_expr" OUT_TOKEN "out_token"
+    OUTER_DOC_COMMENT_TOKEN "outer_doc_comment_token" PARAM_LIST "param_list" PARAMS "params"
+    PARENTHESIZED_ARG_LIST "parenthesized_arg_list" PAT "pat" PATH "path" PATH_TYPE "path_type" PATS "pats"
+    PATTERN_TYPE_TOKEN "pattern_type_token" PIPE_TOKEN "pipe_token" POUND_TOKEN "pound_token" PREDICATES "predicates"
+    PRESERVES_FLAGS_TOKEN "preserves_flags_token" PUB_TOKEN "pub_token" PURE_TOKEN "pure_token" QUALIFIER "qualifier"
+    QUESTION_MARK_TOKEN "question_mark_token" R_ANGLE_TOKEN "r_angle_token" R_BRACK_TOKEN "r_brack_token"
+    R_CURLY_TOKEN "r_curly_token" R_PAREN_TOKEN "r_paren_token" RAW_TOKEN "raw_token" READONLY_TOKEN "readonly_token"
+    RECEIVER "receiver" RECORD_EXPR_FIELD_LIST "record_expr_field_list" RECORD_FIELD_LIST "record_field_list"
+    RECORD_PAT_FIELD_LIST "record_pat_field_list" REF_TOKEN "ref_token" RENAME "rename" REPEAT "repeat"
+    REST_PAT "rest_pat" RET_TYPE "ret_type" RETURN_TOKEN "return_token" RETURN_TYPE_SYNTAX "return_type_syntax"
+    RHS "rhs" SAFE_TOKEN "safe_token" SEGMENT "segment" SELF_PARAM "self_param" SELF_TOKEN "self_token"
+    SELF_TY "self_ty" SELF_TYPE_TOKEN "self_type_token" SEMICOLON_TOKEN "semicolon_token" SHEBANG_TOKEN "shebang_token"
+    SPREAD "spread" STAR_TOKEN "star_token" START "start" STATEMENTS "statements" STATIC_TOKEN "static_token"
+    STMT_LIST "stmt_list" STRING_TOKEN "string_token" STRUCT_TOKEN "struct_token" SUPER_TOKEN "super_token"
+    SYM_TOKEN "sym_token" TAIL_EXPR "tail_expr" TEMPLATE "template" THEN_BRANCH "then_branch"
+    THIN_ARROW_TOKEN "thin_arrow_token" TILDE_TOKEN "tilde_token" TOKEN "token" TOKEN_TREE "token_tree"
+    TOKEN_TREES "token_trees" TRAILING_WHERE_CLAUSE "trailing_where_clause" TRAIT_ "trait_" TRAIT_TOKEN "trait_token"
+    TRUE_TOKEN "true_token" TRY_BLOCK_MODIFIER "try_block_modifier" TRY_TOKEN "try_token" TY "ty"
+    TYPE_ANCHOR "type_anchor" TYPE_ARGS "type_args" TYPE_BOUND_LIST "type_bound_list" TYPE_TOKEN "type_token"
+    UNDERSCORE_TOKEN "underscore_token" UNION_TOKEN "union_token" UNSAFE_TOKEN "unsafe_token"
+    USE_BOUND_GENERIC_ARGS "use_bound_generic_args" USE_TOKEN "use_token" USE_TREE "use_tree"
+    USE_TREE_LIST "use_tree_list" USE_TREES "use_trees" VARIANT_LIST "variant_list" VARIANTS "variants"
+    VISIBILITY "visibility" VISIBILITY_INNER "visibility_inner" WHERE_CLAUSE "where_clause" WHERE_TOKEN "where_token"
+    WHILE_TOKEN "while_token" YEET_TOKEN "yeet_token" YIELD_TOKEN "yield_token"
 ];
