@@ -16,7 +16,7 @@ N = TypeVar('N', bound=Element)
 class Rule:
     """Which children of a node are found: those of some kinds, at a place that is told by another field."""
 
-    __slots__ = ('_kinds', '_place', '_mark', '_is_last', '_number')
+    __slots__ = ('_kinds', '_place', '_mark', '_is_last', '_number', '_only')
 
     # The numbers of rules: two that find the same have the same one.
     _numbers: ClassVar[dict[object, int]] = {}
@@ -26,6 +26,8 @@ class Rule:
         self._kinds = frozenset(int(it) for it in kinds)
         self._place, self._is_last = place, last
         self._mark: str | Rule = mark
+        # The class of what it finds, where its kinds are one, from the first find on.
+        self._only: type[Node] | None = None
 
     def __set_name__(self, owner: type[Node], name: str) -> None:
         """The class has all its fields: the one that tells the place is looked up."""
@@ -97,7 +99,13 @@ class Child(Rule, Generic[N]):
             at = of.found[self._number][node._index]
         except KeyError:
             at = self._ones(of)[node._index]
-        return CLASSES[of.words[5 * at]](of, at) if at else None  # type: ignore[return-value]
+        if not at:
+            return None
+        view = self._only
+        if view is None:
+            view = CLASSES[of.words[5 * at]]
+            self._only = view if len(self._kinds) == 1 else None
+        return view(of, at)  # type: ignore[return-value]
 
 
 class Leaf(Rule):
