@@ -27,7 +27,7 @@ class Rule:
         self._place, self._is_last = place, last
         self._mark: str | Rule = mark
         # The class of what it finds, where its kinds are one, from the first find on.
-        self._only: type[Node] | None = None
+        self._only: type[Element] | None = None
 
     def __set_name__(self, owner: type[Node], name: str) -> None:
         """The class has all its fields: the one that tells the place is looked up."""
@@ -108,26 +108,14 @@ class Child(Rule, Generic[N]):
         return view(of, at)  # type: ignore[return-value]
 
 
-class Leaf(Rule):
+class Leaf(Child[Token]):
     """A field of a token."""
 
     __slots__ = ()
 
-    @overload
-    def __get__(self, node: None, owner: type[Node]) -> Leaf: ...
-
-    @overload
-    def __get__(self, node: Node, owner: type[Node]) -> Token | None: ...
-
-    def __get__(self, node: Node | None, owner: type[Node]) -> Leaf | Token | None:
-        if node is None:
-            return self
-        of = node._of
-        try:
-            at = of.found[self._number][node._index]
-        except KeyError:
-            at = self._ones(of)[node._index]
-        return Token(of, at) if at else None
+    def __init__(self, kinds: Iterable[Kind]) -> None:
+        super().__init__(kinds)
+        self._only = Token
 
 
 class Children(Rule, Generic[N]):
