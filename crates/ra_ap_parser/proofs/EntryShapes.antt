@@ -4,7 +4,7 @@ use Rattle.rap_base.specs.NodeKind.{SOURCE_FILE, MACRO_ITEMS, MACRO_STMTS}
 use Rattle.rap_base.specs.TokenKind.{ERROR}
 use Rattle.rap_events.specs.Forest.{Forest, none, node, leaf, message_count, one_tree}
 use Rattle.rap_events.specs.Record.{Record, IsTokenRecord}
-use Rattle.rap_grammar_core.specs.StandsIn.{NodeAt, last_node, in_last_node, before_node, before_leaf}
+use Rattle.rap_grammar_ends.specs.StandsIn.{NodeAt, last_node, in_last_node, before_node, before_leaf}
 use Rattle.rap_grammar_scripts.specs.Script.{Script}
 use Rattle.rap_grammar_scripts.specs.declared.rule.Rule.{Rule}
 use Rattle.rap_grammar_shapes.specs.HaveShapes.{HaveShapes, HaveShapesWithin, KeepsShapes, MakesNode}

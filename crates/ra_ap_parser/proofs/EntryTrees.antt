@@ -11,8 +11,8 @@ use Rattle.rap_grammar.specs.declared.entry.part.Part.{Part}
 use Rattle.rap_grammar.specs.declared.entry.part.Part.TheVariants as part
 use Rattle.rap_grammar.proofs.DotsInside.{visibility_inside, block_inside, path_inside, expression_inside, type_inside, pattern_inside, single_pattern_inside, meta_inside, statement_inside, item_inside}
 use Rattle.rap_grammar.proofs.Padded.{top_of_prefix}
-use Rattle.rap_grammar_core.specs.Dots.{dots_inside}
-use Rattle.rap_grammar.proofs.Tables.{expression_of_table, file_of_call, file_of_table, items_of_call, items_of_table, meta_of_table, pattern_of_table, stmts_of_table, type_of_table}
+use Rattle.rap_grammar_ends.specs.Dots.{dots_inside}
+use Rattle.rap_grammar.proofs.Tables.{expression_of_table, file_of_table, items_of_table, meta_of_table, pattern_of_table, stmts_of_table, type_of_table}
 use Rattle.rap_grammar.proofs.Parts.{one_prefix}
 use Rattle.rap_grammar_table.specs.Again.{MakesIn, category_in, parsed_again}
 use Rattle.rap_grammar_table.proofs.Again.{made_again}
@@ -20,7 +20,7 @@ use Rattle.rap_grammar_table.proofs.Fronts.{anchored_path_front, block_front, ex
 use Rattle.rap_grammar_table.proofs.ByKind.{sees_other_behind}
 use Rattle.rap_grammar.proofs.Prefixes.{front_of_table, front_part}
 use Rattle.ra_ap_parser.specs.Reparsed.{IsAgainItself}
-use Rattle.ra_ap_parser.specs.EntryScript.{IsOutputOf, IsCore, IsCall, KeepsFront, IsPrefixOutputOf, IsPrefixCore, WrapsPrefix}
+use Rattle.ra_ap_parser.specs.EntryScript.{IsOutputOf, IsCore, KeepsFront, IsPrefixOutputOf, IsPrefixCore, WrapsPrefix}
 use Rattle.ra_ap_parser.specs.declared.entry_point.PrefixEntryPoint.{PrefixEntryPoint}
 use Rattle.ra_ap_parser.specs.declared.entry_point.PrefixEntryPoint.TheVariants as prefix
 use Rattle.ra_ap_parser.specs.declared.entry_point.TopEntryPoint.{TopEntryPoint}
@@ -34,17 +34,6 @@ core_tree entry.Pattern input i d = pattern_of_table i d
 core_tree entry.Ty input i d = type_of_table i d
 core_tree entry.Expr input i d = expression_of_table i d
 core_tree entry.MetaItem input i d = meta_of_table i d
-
--- and so does a macro call
-pub call_tree : (e : TopEntryPoint) (input : List Record) {tree output : Forest} → All IsTokenRecord input →
-    IsOutputOf e input output → IsCall e input tree → (output ≡ tree) × (message_count output ≡ 0)
-call_tree entry.SourceFile input h i d = let x = file_of_call i h d.1 in (x.0 ∙ sym d.2, x.1)
-call_tree entry.MacroStmts input h i d = absurd d
-call_tree entry.MacroItems input h i d = let x = items_of_call i h d.1 in (x.0 ∙ sym d.2, x.1)
-call_tree entry.Pattern input h i d = absurd d
-call_tree entry.Ty input h i d = absurd d
-call_tree entry.Expr input h i d = absurd d
-call_tree entry.MetaItem input h i d = absurd d
 
 -- what begins with items and tokens that begin none keeps their trees
 pub front_kept : (e : TopEntryPoint) (input : List Record) (output : Forest) → IsOutputOf e input output → KeepsFront e input output

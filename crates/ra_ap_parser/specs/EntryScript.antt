@@ -5,8 +5,7 @@ use Rattle.rap_base.specs.TokenKind.{L_PAREN, SEMICOLON}
 use Rattle.rap_events.specs.Record.{Record, next_kind}
 use Rattle.rap_events.specs.Forest.{Forest, none, node, ◌⧺◌, used}
 use Rattle.rap_grammar_scripts.specs.ThroughKnot.{expr, pattern, pattern_single, type_, meta}
-use Rattle.rap_grammar_core.specs.MacroCall.{IsMacroCall}
-use Rattle.rap_grammar_core.specs.Mixed.{IsFront}
+use Rattle.rap_grammar_ends.specs.Mixed.{IsFront}
 use Rattle.rap_grammar_table.specs.Categories as table
 use Rattle.rap_grammar_table.specs.Fronts.{MakesFront}
 use Rattle.rap_grammar_table.specs.Heads.{file_head, items_head}
@@ -45,8 +44,8 @@ abbrev pub IsRow : ℕ → Items → List Record → Forest → Type 0
 IsRow kind row input tree = (forest : Forest) × MakesRow row input forest × (tree ≡ node none kind forest)
 
 -- The whole input is derived by the table of the core grammar, with this tree. Under `MacroStmts` it is what may stand in
--- the braces of a block, and under `MacroItems` any number of items, in the node of the entry. So is all that the relation
--- derives of a file, of items, of what stands in a block, of a type and of an expression: `holds_in_table`.
+-- the braces of a block, and under `MacroItems` any number of items, in the node of the entry. So is all that the small
+-- grammar derives of a file, of items, of what stands in a block, of a type and of an expression: `holds_in_table`.
 abbrev pub IsCore : TopEntryPoint → List Record → Forest → Type 0
 IsCore entry.SourceFile input tree = IsRow SOURCE_FILE file_row input tree
 IsCore entry.MacroStmts input tree = IsRow MACRO_STMTS stmts_row input tree
@@ -55,16 +54,6 @@ IsCore entry.Pattern input tree = Makes table.Pattern input tree
 IsCore entry.Ty input tree = Makes table.Ty input tree
 IsCore entry.Expr input tree = Makes table.Expr input tree
 IsCore entry.MetaItem input tree = Makes table.Meta input tree
-
--- The whole input is a macro call in the place of an item, and this tree is the entry's node over it.
-abbrev pub IsCall : TopEntryPoint → List Record → Forest → Type 0
-IsCall entry.SourceFile input tree = (call : Forest) × IsMacroCall input call × (tree ≡ node none SOURCE_FILE call)
-IsCall entry.MacroStmts input tree = ⊥
-IsCall entry.MacroItems input tree = (call : Forest) × IsMacroCall input call × (tree ≡ node none MACRO_ITEMS call)
-IsCall entry.Pattern input tree = ⊥
-IsCall entry.Ty input tree = ⊥
-IsCall entry.Expr input tree = ⊥
-IsCall entry.MetaItem input tree = ⊥
 
 -- Where an input begins with items of the core grammar and with `@`, `,` and integers, in any order, the entry's node
 -- begins with the tree of each, whatever follows the last such token. Before these may stand what may stand before the
@@ -115,8 +104,7 @@ WrapsPrefix entry.MetaItem input output = IsTopOfPrefix prefix.MetaItem input ou
 
 -- The front of an input is derived by the table of the core grammar, with this tree, before what can follow it. That is
 -- what the table says of the category; but an item stands before any token but a semicolon, a visibility before any but a
--- parenthesis, and a block before anything. So is a front that the relation derives as a type, an expression, an item or
--- a block, before what the relation lets follow it: `holds_in_table`.
+-- parenthesis, and a block before anything.
 abbrev pub IsPrefixCore : PrefixEntryPoint → List Record → List Record → Forest → Type 0
 IsPrefixCore prefix.Vis front rest tree = Makes table.Visibility front tree × (next_kind rest ≢ L_PAREN)
 IsPrefixCore prefix.Block front rest tree = Makes table.Block front tree

@@ -1,3 +1,4 @@
+pub mod Calls
 pub mod Closed
 pub mod EntryScript
 pub mod Fault

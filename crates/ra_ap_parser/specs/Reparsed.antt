@@ -5,7 +5,7 @@ use Rattle.rap_base.specs.TokenKind.{L_CURLY}
 use Rattle.rap_events.specs.Record.{Record, next_kind}
 use Rattle.rap_events.specs.Forest.{Forest, none, node}
 use Rattle.rap_grammar_scripts.specs.First.{one_of}
-use Rattle.rap_grammar_core.specs.StandsIn.{StandsIn}
+use Rattle.rap_grammar_ends.specs.StandsIn.{StandsIn}
 use Rattle.rap_grammar_table.specs.Again.{IsTableTree}
 use Rattle.rap_grammar.specs.Part.{part_kind, IsWhole}
 use Rattle.rap_grammar.specs.declared.entry.part.Part.{Part}
@@ -31,8 +31,7 @@ abbrev pub kind_of : Option Part → Option ℕ
 kind_of None = None
 kind_of (Some p) = Some (part_kind p)
 
--- A tree of the core grammar by its table, and this node begins with a brace. A node in a tree of the relation, or in a
--- macro call, is by its own tokens alone such a tree: `holds_in_table`.
+-- A tree of the core grammar, and this node begins with a brace.
 abbrev pub HasNode : List Record → Forest → List Record → Type 0
 HasNode tokens tree own = IsTableTree tokens tree × (next_kind own ≡ L_CURLY)
 

@@ -70,7 +70,7 @@ pub enum TopEntryPoint {
 }
 
 impl TopEntryPoint {
-    ghost use Rattle.ra_ap_parser.specs.EntryScript.{IsOutputOf, IsCore, IsCall, KeepsFront, WrapsPrefix};
+    ghost use Rattle.ra_ap_parser.specs.EntryScript.{IsOutputOf, IsCore, KeepsFront, WrapsPrefix};
 
     /// Parses the input as one tree.
     fn run(&self, alloc: Global, input: &Input) -> Result<Output, NoMemory>
@@ -100,17 +100,17 @@ impl TopEntryPoint {
     ///
     /// An input that the core grammar derives gives its derivation's tree, without a message: under `SourceFile` as a
     /// file, under `Expr` as an expression, under `Ty` as a type, under `Pattern` as a pattern and under `MetaItem` as
-    /// what stands in the brackets of an attribute. The core grammar is a table of rows; what its relation derives the
-    /// table derives too ([`holds_in_table`](crate::table_laws::holds_in_table)). Items, fields, statements and more
-    /// may have attributes and documentation, and a file a shebang and frontmatter. Under `MacroItems` it is any number
-    /// of items, and the tree is a `MACRO_ITEMS` of them; under `MacroStmts` it is the contents of a block, and the
-    /// tree is a `MACRO_STMTS` of the statements, and of the value after them if there is one. A macro call, of a name
-    /// and balanced tokens in braces, gives under `SourceFile` and `MacroItems` the entry's node over one `MACRO_CALL`,
-    /// whose `TOKEN_TREE` nests as the brackets do, without a message. Where an input begins with items of the core
-    /// grammar and with `@`, `,` and integers, in any order, the entry's node begins under these two with the tree of
-    /// each item and an `ERROR` of a message and one leaf for each such token, whatever follows the last one. Before
-    /// these may stand, with their trees, a shebang, frontmatter and attributes of the file, and under `MacroItems` such
-    /// attributes. `Pattern`, `Ty`, `Expr` and `MetaItem` give what `PatTop`, `Ty`, `Expr` and `MetaItem` of
+    /// what stands in the brackets of an attribute. The core grammar is a table of rows; the small grammar is a part of
+    /// it ([`holds_in_table`](crate::laws::holds_in_table)), and so is a macro call, of a name and balanced tokens in
+    /// braces, that is all of a `SourceFile` or `MacroItems` ([`calls_are_core`](crate::laws::calls_are_core)). Items,
+    /// fields, statements and more may have attributes and documentation, and a file a shebang and frontmatter. Under
+    /// `MacroItems` it is any number of items, and the tree is a `MACRO_ITEMS` of them; under `MacroStmts` it is the
+    /// contents of a block, and the tree is a `MACRO_STMTS` of the statements, and of the value after them if there is
+    /// one. Where an input begins with items of the core grammar and with `@`, `,` and integers, in any order, the
+    /// entry's node begins under these two with the tree of each item and an `ERROR` of a message and one leaf for each
+    /// such token, whatever follows the last one. Before these may stand, with their trees, a shebang, frontmatter and
+    /// attributes of the file, and under `MacroItems` such attributes. `Pattern`, `Ty`, `Expr` and `MetaItem` give what
+    /// `PatTop`, `Ty`, `Expr` and `MetaItem` of
     /// [`PrefixEntryPoint`] read, where that is one tree over the whole input, and else an `ERROR` over it and a leaf
     /// for each token that is left.
     pub fn parse(&self, alloc: Global, input: &Input) -> Result<Output, ParseFault>
@@ -119,7 +119,6 @@ impl TopEntryPoint {
         ensures only { IfOk result (λ output. (other : Forest) → IsOutputOf self.now input.now other → other ≡ output) }
         ensures shapes { IfOk result HaveShapesWithin }
         ensures core { IfOk result (λ output. (tree : Forest) → IsCore self.now input.now tree → (output ≡ tree) × (message_count output ≡ 0)) }
-        ensures macro_call { IfOk result (λ output. (tree : Forest) → IsCall self.now input.now tree → (output ≡ tree) × (message_count output ≡ 0)) }
         ensures front { IfOk result (KeepsFront self.now input.now) }
         ensures wraps { IfOk result (WrapsPrefix self.now input.now) }
         ensures too_many { (result ≡ Err ParseFault.TooManyTokens) ↔ (MAX_TOKENS < length input.now) }
@@ -161,7 +160,7 @@ pub enum PrefixEntryPoint {
 
 impl PrefixEntryPoint {
     ghost use Rattle.ra_ap_parser.specs.EntryScript.{IsPrefixOutputOf, IsPrefixCore};
-    ghost use Rattle.rap_grammar_core.specs.Dots.{dots_inside};
+    ghost use Rattle.rap_grammar_ends.specs.Dots.{dots_inside};
 
     /// Parses what the entry names.
     fn run(&self, alloc: Global, input: &Input) -> Result<Output, NoMemory>

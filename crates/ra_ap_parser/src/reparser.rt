@@ -71,7 +71,7 @@ impl Model for Reparser {
 
 impl Reparser {
     ghost use Rattle.ra_ap_parser.specs.Reparsed.{reparsed, kind_of, IsAgainItself};
-    ghost use Rattle.rap_grammar_core.specs.Dots.{dots_inside};
+    ghost use Rattle.rap_grammar_ends.specs.Dots.{dots_inside};
     ghost use Rattle.ra_ap_parser.specs.Closed.{brace_depth, is_closed, ClosesByOwnBrace};
 
     /// Returns the reparser of a node of the kind `node`, or `None` if such a node is not parsed again. `first_child`
@@ -160,10 +160,8 @@ impl Reparser {
     /// the node is its derivation's tree again, without a message: a block, any list in braces that has a reparser, or
     /// a token tree, which is any tokens whose brackets are balanced, in brackets. So such a node in the tree of
     /// anything that the core grammar derives is itself again when it is parsed from its own tokens, if it begins with
-    /// a brace, as a block with a label does not. So does each in a tree of the grammar's relation, and in a macro
-    /// call: the law [`holds_in_table`](crate::table_laws::holds_in_table) says that its own tokens are derived. The
-    /// error is `TooManyTokens` exactly for an input of more than [`MAX_TOKENS`] tokens, which is tested first;
-    /// otherwise `NoMemory` if the allocator refused a request.
+    /// a brace, as a block with a label does not. The error is `TooManyTokens` exactly for an input of more than
+    /// [`MAX_TOKENS`] tokens, which is tested first; otherwise `NoMemory` if the allocator refused a request.
     pub fn parse(self, alloc: Global, input: &Input) -> Result<Output, ParseFault>
         requires brace { asks_brace self ≡ true → next_kind input.now ≡ L_CURLY }
         ensures prefix { IfOk result (IsPrefixOver input.now) }

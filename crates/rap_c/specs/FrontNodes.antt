@@ -8,7 +8,7 @@ use Rattle.ra_ap_parser.specs.EntryScript.{IsPrefixOutputOf}
 use Rattle.ra_ap_parser.specs.declared.entry_point.PrefixEntryPoint.{PrefixEntryPoint}
 use Rattle.rap_grammar.specs.Part.{IsOneNode, IsPrefixOf, IsPrefixOver, part_script, part_kind, asks_brace}
 use Rattle.rap_grammar.specs.declared.entry.part.Part.{Part}
-use Rattle.rap_grammar_core.specs.Dots.{dots_inside}
+use Rattle.rap_grammar_ends.specs.Dots.{dots_inside}
 use Rattle.rap_lexed.specs.Input.{records}
 use Rattle.rap_lexed.specs.LexedStr.{Lexed, Token}
 use Rattle.rap_lexed.specs.Used.{end_after}

@@ -6,7 +6,7 @@ use Rattle.rap_events.specs.Record.{Record, next_kind}
 use Rattle.rap_grammar.specs.Part.{IsOneNode, IsPrefixOf, IsPrefixOver, part_script, part_kind, asks_brace}
 use Rattle.rap_grammar.specs.Top.{IsTreeOver}
 use Rattle.rap_grammar.specs.declared.entry.part.Part.{Part}
-use Rattle.rap_grammar_core.specs.Dots.{dots_inside}
+use Rattle.rap_grammar_ends.specs.Dots.{dots_inside}
 use Rattle.ra_ap_parser.specs.EntryScript.{IsOutputOf, IsPrefixOutputOf}
 use Rattle.ra_ap_parser.specs.declared.entry_point.PrefixEntryPoint.{PrefixEntryPoint}
 use Rattle.ra_ap_parser.specs.declared.entry_point.TopEntryPoint.{TopEntryPoint}

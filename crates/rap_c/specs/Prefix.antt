@@ -4,7 +4,7 @@ use Rattle.rap_base.specs.declared.edition.Edition.{Edition}
 use Rattle.rap_events.specs.Forest.{Forest}
 use Rattle.ra_ap_parser.specs.EntryScript.{IsPrefixOutputOf}
 use Rattle.rap_grammar.specs.Part.{IsPrefixOver}
-use Rattle.rap_grammar_core.specs.Dots.{dots_inside}
+use Rattle.rap_grammar_ends.specs.Dots.{dots_inside}
 use Rattle.ra_ap_parser.specs.Headline.{HasTooManyTokens}
 use Rattle.rap_lexed.specs.Input.{records}
 use Rattle.rap_lexed.specs.LexedStr.{Lexed, IsLexing}

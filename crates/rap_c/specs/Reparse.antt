@@ -6,7 +6,7 @@ use Rattle.rap_events.specs.Forest.{Forest}
 use Rattle.rap_events.specs.Record.{next_kind}
 use Rattle.rap_grammar.specs.Part.{IsOneNode, IsPrefixOf, IsPrefixOver, part_script, part_kind, asks_brace}
 use Rattle.rap_grammar.specs.declared.entry.part.Part.{Part}
-use Rattle.rap_grammar_core.specs.Dots.{dots_inside}
+use Rattle.rap_grammar_ends.specs.Dots.{dots_inside}
 use Rattle.rap_base.specs.Limits.{max_tokens}
 use Rattle.rap_lexed.specs.Input.{records}
 use Rattle.rap_lexed.specs.LexedStr.{Lexed, IsLexing}

@@ -5,9 +5,9 @@ use Rattle.rap_events.specs.Forest.{Forest, ◌⧺◌}
 use Rattle.rap_events.specs.Record.{Record, next_kind}
 use Rattle.rap_grammar_scripts.specs.Items.{item_or_macro}
 use Rattle.rap_grammar_scripts.specs.Test.{Test, kind_so}
-use Rattle.rap_grammar_core.proofs.Recovery.{AreItems}
-use Rattle.rap_grammar_core.proofs.Ways.{Leads}
-use Rattle.rap_grammar_core.specs.Mixed.{IsStray}
+use Rattle.rap_grammar_ends.proofs.Recovery.{AreItems}
+use Rattle.rap_grammar_ends.proofs.Ways.{Leads}
+use Rattle.rap_grammar_ends.specs.Mixed.{IsStray}
 use Rattle.rap_grammar_table.specs.Categories as category
 use Rattle.rap_grammar_table.specs.Fronts.{any_but}
 use Rattle.rap_grammar_table.specs.Known.{Sees}

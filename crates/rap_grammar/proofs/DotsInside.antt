@@ -13,13 +13,13 @@ use Rattle.rap_grammar_scripts.specs.Script.{Script, Outcome, Runs, give, rule, 
 use Rattle.rap_grammar_scripts.specs.Statements.{stmt}
 use Rattle.rap_grammar_scripts.specs.Visibility.{opt_visibility}
 use Rattle.rap_grammar_scripts.specs.declared.arguments.Semicolon.TheVariants as semicolon
-use Rattle.rap_grammar_core.proofs.DotEnds.{dot_ends, inside}
-use Rattle.rap_grammar_core.proofs.DotFits.{at_range, computed, range_implies}
-use Rattle.rap_grammar_core.proofs.DotKeeps.{leaves_inside, kept_inside}
-use Rattle.rap_grammar_core.proofs.DotRules.{dots_sound}
-use Rattle.rap_grammar_core.proofs.Endings.{every}
+use Rattle.rap_grammar_ends.proofs.DotEnds.{dot_ends, inside}
+use Rattle.rap_grammar_ends.proofs.DotFits.{at_range, computed, range_implies}
+use Rattle.rap_grammar_ends.proofs.DotKeeps.{leaves_inside, kept_inside}
+use Rattle.rap_grammar_ends.proofs.DotRules.{dots_sound}
+use Rattle.rap_grammar_ends.proofs.Endings.{every}
 use Rattle.rap_grammar_scripts.proofs.Scripts.{scripts}
-use Rattle.rap_grammar_core.specs.Dots.{dots_inside}
+use Rattle.rap_grammar_ends.specs.Dots.{dots_inside}
 use Rattle.rap_grammar.specs.Part.{IsPrefixOf}
 
 -- what is computed of a script that leaves none

@@ -3,8 +3,8 @@ use Rattle.std.proofs.Common.{◌≡◌, List, [], ◌∷◌, ◌++◌, append_a
 use Rattle.rap_base.specs.NodeKind.{SOURCE_FILE, MACRO_ITEMS}
 use Rattle.rap_events.specs.Forest.{Forest, none, node, ◌⧺◌}
 use Rattle.rap_events.specs.Record.{Record}
-use Rattle.rap_grammar_core.proofs.Recovery.{items_begin, mixed_next}
-use Rattle.rap_grammar_core.specs.Mixed.{Mixed, no_more, an_item, a_stray, IsFront, whole, before}
+use Rattle.rap_grammar_ends.proofs.Recovery.{items_begin, mixed_next}
+use Rattle.rap_grammar_ends.specs.Mixed.{Mixed, no_more, an_item, a_stray, IsFront, whole, before}
 use Rattle.rap_grammar_scripts.specs.Entry.{source_file}
 use Rattle.rap_grammar_scripts.specs.Modules.{mod_contents}
 use Rattle.rap_grammar_table.proofs.Fronts.{item_seen}

@@ -14,12 +14,12 @@ use Rattle.rap_grammar_scripts.specs.declared.rule.Rule.{Rule}
 use Rattle.rap_grammar_scripts.specs.declared.rule.Rule.TheVariants as knot
 use Rattle.rap_grammar_scripts.proofs.Exec.{no_end, rules_run}
 use Rattle.rap_grammar_scripts.proofs.Scripts.{scripts}
-use Rattle.rap_grammar_core.proofs.DotEnds.{inside}
-use Rattle.rap_grammar_core.proofs.DotFits.{at_range, computed, range_implies}
-use Rattle.rap_grammar_core.proofs.DotKeeps.{leaves_inside, kept_inside}
-use Rattle.rap_grammar_core.proofs.DotRules.{dots_sound}
-use Rattle.rap_grammar_core.proofs.Endings.{every}
-use Rattle.rap_grammar_core.specs.Dots.{dots_inside}
+use Rattle.rap_grammar_ends.proofs.DotEnds.{inside}
+use Rattle.rap_grammar_ends.proofs.DotFits.{at_range, computed, range_implies}
+use Rattle.rap_grammar_ends.proofs.DotKeeps.{leaves_inside, kept_inside}
+use Rattle.rap_grammar_ends.proofs.DotRules.{dots_sound}
+use Rattle.rap_grammar_ends.proofs.Endings.{every}
+use Rattle.rap_grammar_ends.specs.Dots.{dots_inside}
 use Rattle.rap_grammar_frame.specs.Rules.{Post}
 use Rattle.rap_grammar.specs.Known.{IsKnown, begins_node, known_by, known_of}
 use Rattle.rap_grammar.proofs.DotsInside.{LeavesNone}

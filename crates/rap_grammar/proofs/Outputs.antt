@@ -5,7 +5,7 @@ use Rattle.rap_events.specs.Forest.{Forest, none, node, one_tree}
 use Rattle.rap_grammar_scripts.specs.declared.rule.Rule.{Rule}
 use Rattle.rap_grammar_scripts.specs.Script.{Script, Spot}
 use Rattle.rap_grammar_scripts.proofs.OneEnd.{one_end}
-use Rattle.rap_grammar_core.proofs.Ways.{Leads}
+use Rattle.rap_grammar_ends.proofs.Ways.{Leads}
 use Rattle.rap_grammar.specs.Top.{IsTopOf, IsRootOf, top_tree}
 
 -- one tree is kept as it is

@@ -23,7 +23,7 @@ use Rattle.rap_grammar_scripts.proofs.Effects.{found, rules_do}
 use Rattle.rap_grammar_scripts.proofs.Exec.{no_end, by_test, by_end, by_again, spot_of, outcome_of}
 use Rattle.rap_grammar_scripts.proofs.Kept.{nodes_within}
 use Rattle.rap_grammar_scripts.proofs.Tally.{Among, this_one, later_one}
-use Rattle.rap_grammar_core.proofs.Endings.{Ending, unknown, ends_in, join, gather, settle, flagged, every, Decides, Then, Turned, joined_left, joined_right, gathered, settled, of_flags, of_stop}
+use Rattle.rap_grammar_ends.proofs.Endings.{Ending, unknown, ends_in, join, gather, settle, flagged, every, Decides, Then, Turned, joined_left, joined_right, gathered, settled, of_flags, of_stop}
 use Rattle.rap_grammar.proofs.TopTree.{none-⧺}
 use Rattle.rap_grammar.specs.Known.{begins_node}
 

@@ -1,22 +1,19 @@
 -- What a parse of a whole input makes of what the table of the grammar derives.
-use Rattle.std.proofs.Common.{◌≡◌, ℕ, ◌+◌, [], ◌∷◌, List, All, true, false, refl, ap, ◌∙◌}
+use Rattle.std.proofs.Common.{◌≡◌, ℕ, ◌+◌, [], ◌∷◌, List, true, false, refl, ap, ◌∙◌}
 use Rattle.rap_base.specs.NodeKind.{MACRO_ITEMS, MACRO_STMTS, SOURCE_FILE}
 use Rattle.rap_events.specs.Forest.{Forest, none, node, message_count, one_tree}
-use Rattle.rap_events.specs.Record.{Record, IsTokenRecord}
+use Rattle.rap_events.specs.Record.{Record}
 use Rattle.rap_grammar_scripts.specs.Entry.{macro_stmts, source_file}
 use Rattle.rap_grammar_scripts.specs.Modules.{mod_contents}
 use Rattle.rap_grammar_scripts.specs.Script.{Script, Spot}
 use Rattle.rap_grammar_scripts.specs.ThroughKnot.{expr, meta, pattern, type_}
 use Rattle.rap_grammar_scripts.specs.declared.rule.Rule.{Rule}
 use Rattle.rap_grammar_scripts.proofs.OneEnd.{one_end}
-use Rattle.rap_grammar_core.specs.MacroCall.{IsMacroCall}
-use Rattle.rap_grammar_core.specs.Dots.{dots_inside}
+use Rattle.rap_grammar_ends.specs.Dots.{dots_inside}
 use Rattle.rap_grammar_table.specs.Categories.{Expr, Meta, Pattern, Ty}
 use Rattle.rap_grammar_table.specs.Good.{IsNode}
 use Rattle.rap_grammar_table.specs.Tops.{Makes, MakesRow, file_row, items_row, stmts_row}
 use Rattle.rap_grammar_table.proofs.Fronts.{category_clean, row_clean}
-use Rattle.rap_grammar_table.proofs.IncludedBrackets.{call_holds}
-use Rattle.rap_grammar_table.proofs.InTable.{item_alone, item_in_file}
 use Rattle.rap_grammar_table.proofs.Tops.{MakesAll, expr_is_node, expr_made, file_made, items_made, meta_is_node, meta_made, pattern_is_node, pattern_made, stmts_made, type_is_node, type_made}
 use Rattle.rap_grammar.specs.Top.{IsRootOf, IsTopOf}
 use Rattle.rap_grammar.proofs.DotsInside.{expression_makes_none, meta_makes_none, pattern_makes_none, type_makes_none}
@@ -39,16 +36,6 @@ items_of_table i d = let e = root_of i (items_made d (none ∷ [])) in (e, ap me
 pub stmts_of_table : {input : List Record} {t output : Forest} → IsRootOf MACRO_STMTS macro_stmts input output →
     MakesRow stmts_row input t → (output ≡ node none MACRO_STMTS t) × (message_count output ≡ 0)
 stmts_of_table i d = let e = root_of i (stmts_made d (none ∷ [])) in (e, ap message_count e ∙ over (row_clean d))
-
--- and so does a macro call alone, which is an item
-pub file_of_call : {input : List Record} {t output : Forest} → IsRootOf SOURCE_FILE source_file input output →
-    All IsTokenRecord input → IsMacroCall input t → (output ≡ node none SOURCE_FILE t) × (message_count output ≡ 0)
-file_of_call {input = input} {t = t} i h d = file_of_table i (item_in_file (call_holds input t h d))
-
-pub items_of_call : {input : List Record} {t output : Forest} →
-    IsRootOf MACRO_ITEMS (mod_contents false) input output → All IsTokenRecord input → IsMacroCall input t →
-    (output ≡ node none MACRO_ITEMS t) × (message_count output ≡ 0)
-items_of_call {input = input} {t = t} i h d = items_of_table i (item_alone (call_holds input t h d))
 
 -- one node is one tree, unless it ends with a float's dot
 one_of_node : {t : Forest} → IsNode t → dots_inside t ≡ true → one_tree t ≡ true

@@ -5,6 +5,6 @@ use Rattle.rap_events.specs.Record.{Record}
 use Rattle.rap_grammar_table.specs.Categories as table
 use Rattle.rap_grammar_table.specs.Tops.{Makes}
 
--- These tokens are an item of the table with this tree. So is each item that the relation derives: `holds_in_table`.
+-- These tokens are an item of the table with this tree.
 abbrev pub IsItem : List Record → Forest → Type 0
 IsItem tokens tree = Makes table.Item tokens tree

@@ -95,8 +95,8 @@ asks_brace part.TokenTree = true
 asks_brace part.AssocItemList = true
 asks_brace part.ItemList = true
 
--- These tokens are derived by the table of the core grammar as this part, with this tree. So is all that the relation
--- derives as this part, and of an input's tokens are balanced ones in brackets: `holds_in_table`.
+-- These tokens are derived by the table of the core grammar as this part, with this tree. So are, as a token tree, an
+-- input's tokens in brackets, balanced: `holds_in_table`.
 abbrev pub IsPartCore : Part → List Record → Forest → Type 0
 IsPartCore part.Visibility tokens tree = ⊥
 IsPartCore part.Path tokens tree = ⊥

@@ -20,7 +20,7 @@ use Rattle.rap_grammar_table.specs.Known.{among}
 use Rattle.rap_grammar_table.specs.Notation.{Entry, entry_at}
 use Rattle.rap_grammar_table.specs.Rows.{entries, table}
 use Rattle.rap_grammar_table.specs.Table.{Items, HasWay, first_turn, other_turn, Derives, rest_of, cat, row_at, by_row, last_turn, one_turn, folded_none, folded_more}
-use Rattle.rap_grammar_table.specs.Tops.{nothing_given, MakesRow, file_row}
+use Rattle.rap_grammar_table.specs.Tops.{MakesRow, file_row}
 
 -- rows by their numbers
 rows_at : ℕ → List (List Items) → List Items
@@ -95,8 +95,8 @@ one_more : (js : List ℕ) (n m k : ℕ) (ws a : Items) (c : Forest) (ks ls : Li
     Folded n ws (ks ++ ls) k c
 one_more js n m k ws a c ks ls w h r f =
     let i : Folded m ws ls r.fits.0 r.fits.1 = f r.fits.0 r.fits.1 in
-    let d : Derives table nothing_given (rest_of a (node none k c) (none ∷ []) r.pieces) ks (node none r.fits.0 r.fits.1) =
-    subst (λ (x : Forest). Derives table nothing_given (rest_of a (node none k c) (none ∷ []) r.pieces) ks x) r.fits.2
+    let d : Derives table (rest_of a (node none k c) (none ∷ [])) ks (node none r.fits.0 r.fits.1) =
+    subst (λ (x : Forest). Derives table (rest_of a (node none k c) (none ∷ [])) ks x) r.fits.2
     r.derives in
     record { tree = i.tree; derives = folded_more w h d i.derives; is_node = i.is_node }
 
@@ -128,12 +128,12 @@ file_from : (tokens : List Record) (b : ℕ) (o : Shape) → From tokens b o (ro
 file_from tokens b o f h =
     let m : Rest (at_place 0) none [] f.part o = f.good none [] refl tt in
     let w : tokens ≡ f.part = whole tokens f.part b h f.is_part in
-    let d : Derives table nothing_given (rest_of file_row none [] m.pieces) f.part m.tree =
-    subst (λ (is : Items). Derives table nothing_given (rest_of is none [] m.pieces) f.part m.tree) file_content
+    let d : Derives table (rest_of file_row none []) f.part m.tree =
+    subst (λ (is : Items). Derives table (rest_of is none []) f.part m.tree) file_content
     m.derives in
-    let g : Derives table nothing_given (rest_of file_row none [] m.pieces) tokens m.tree =
-    subst (λ (ks : List Record). Derives table nothing_given (rest_of file_row none [] m.pieces) ks m.tree) (sym w) d in
-    (m.tree, record { pieces = m.pieces; derives = g })
+    let g : Derives table (rest_of file_row none []) tokens m.tree =
+    subst (λ (ks : List Record). Derives table (rest_of file_row none []) ks m.tree) (sym w) d in
+    (m.tree, g)
 
 pub file_fact : (tokens : List Record) (p a b : ℕ) (o : Shape) → From tokens b o (row_point p a) → p ≡ 0 → a ≡ 0 →
     b ≡ length tokens → (forest : Forest) × MakesRow file_row tokens forest

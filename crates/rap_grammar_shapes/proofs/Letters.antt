@@ -4,7 +4,7 @@ use Rattle.std.proofs.Common.{append_assoc, append-nil, ◌≡◌, ◌==◌, ◌
 use Rattle.rap_base.specs.NodeKind.{NAME_REF}
 use Rattle.rap_base.specs.TokenKind.{ERROR}
 use Rattle.rap_events.specs.Forest.{Forest, none, node, leaf, message, split, ◌⧺◌, message_count}
-use Rattle.rap_grammar_core.specs.StandsIn.{NodeAt, last_node, in_last_node, before_node, before_leaf, before_message, before_split}
+use Rattle.rap_grammar_ends.specs.StandsIn.{NodeAt, last_node, in_last_node, before_node, before_leaf, before_message, before_split}
 use Rattle.rap_grammar_table.specs.Shapes.{Child, leaf_child, node_child, message_child, float_child, children_of}
 use Rattle.rap_grammar_shapes.specs.Spelled.{number_behind, spelled_children}
 use Rattle.rap_grammar_shapes.specs.Whole.{IsWhole}

@@ -4,7 +4,7 @@ use Rattle.rap_base.specs.NodeKind.{SOURCE_FILE, MACRO_ITEMS, MACRO_STMTS}
 use Rattle.rap_base.specs.TokenKind.{ERROR}
 use Rattle.rap_events.specs.Forest.{Forest, none, node, message_count}
 use Rattle.rap_events.specs.Record.{IsTokenRecord}
-use Rattle.rap_grammar_core.specs.StandsIn.{NodeAt}
+use Rattle.rap_grammar_ends.specs.StandsIn.{NodeAt}
 use Rattle.rap_grammar_scripts.specs.Adt.{record_field_list, variant_list}
 use Rattle.rap_grammar_scripts.specs.Blocks.{block_expr}
 use Rattle.rap_grammar_scripts.specs.Entry.{source_file, macro_stmts}

@@ -5,7 +5,7 @@ use Rattle.rap_events.proofs.Truth.{and_left, and_right}
 use Rattle.rap_events.specs.Composite.{width_of}
 use Rattle.rap_events.specs.Forest.{Forest, none, node, ◌⧺◌, used}
 use Rattle.rap_events.specs.Record.{Record, next_kind}
-use Rattle.rap_grammar_core.proofs.Standing.{Stands, empty, with_leaf, with_node, both, of_node, used-stands}
+use Rattle.rap_grammar_ends.proofs.Standing.{Stands, empty, with_leaf, with_node, both, of_node, used-stands}
 use Rattle.rap_grammar_scripts.specs.Test.{Test, kind_so}
 use Rattle.rap_grammar_table.specs.Again.{IsMade, IsTableTree, MakesIn, MakesItsNodes, a_file, category_in, of_category, parsed_again, some_items, some_stmts}
 use Rattle.rap_grammar_table.specs.Categories.{AssocItems, Attr, Block, ExternItems, ItemList, MatchArms, RecordFields, RecordValues, TokenTree, UseTrees, Variants}
@@ -14,22 +14,22 @@ use Rattle.rap_grammar_table.specs.Known.{Place, among}
 use Rattle.rap_grammar_table.specs.Look.{depth}
 use Rattle.rap_grammar_table.specs.Notation.{Entry, entry_at}
 use Rattle.rap_grammar_table.specs.Rows.{entries, table}
-use Rattle.rap_grammar_table.specs.Table.{Piece, tok, word, comp, cat, Items, nil, begin, close, piece, choice, repeat, turns_of, group, folds, folding, unless, appended, HasWay, first_turn, other_turn, Touching, last_part, next_part, Goal, one, rest_of, row_at, Derives, beside, by_row, a_token, a_word, an_operator, ended, begun, closed, put, first_way, second_way, last_turn, one_turn, repeated, grouped, folded_none, folded_more, folded, guarded}
-use Rattle.rap_grammar_table.specs.Tops.{Makes, MakesRow, nothing_given}
+use Rattle.rap_grammar_table.specs.Table.{Piece, tok, word, comp, cat, Items, nil, begin, close, piece, choice, repeat, turns_of, group, folds, folding, unless, appended, HasWay, first_turn, other_turn, Touching, last_part, next_part, Goal, one, rest_of, row_at, Derives, by_row, a_token, a_word, an_operator, ended, begun, closed, put, first_way, second_way, last_turn, one_turn, repeated, grouped, folded_none, folded_more, folded, guarded}
+use Rattle.rap_grammar_table.specs.Tops.{Makes, MakesRow}
 use Rattle.rap_grammar_table.proofs.Entries.{all_rows, of_all}
-use Rattle.rap_grammar_table.proofs.Fronts.{known, sees_anything}
+use Rattle.rap_grammar_table.proofs.Fronts.{sees_anything}
 use Rattle.rap_grammar_table.proofs.Known.{by_or, never_so, same_number}
 use Rattle.rap_grammar_table.proofs.PartRows.{Followed, all_followed, ends_one, ends_some, every_way, if_same, is_category, is_none, no_brace_first, parts_so, past_piece, past_turns, same_items, same_items_so, same_piece, same_piece_so, step_piece, step_turns, told_first}
 use Rattle.rap_grammar_table.proofs.Rows.{checked}
 use Rattle.rap_grammar_table.proofs.Sound.{claim}
 
 abbrev Makings : Goal → List Record → Forest → Type 0
-Makings g ks y = Derives table nothing_given g ks y
+Makings g ks y = Derives table g ks y
 
 -- what a row that is followed so far, with this forest of these tokens, derives of what is left of it
 abbrev Leads : Forest → List Record → Followed → Type 0
 Leads x js q =
-    (us : List Forest) (ks : List Record) (y : Forest) → Makings (rest_of q.left x (none ∷ []) us) ks y →
+    (ks : List Record) (y : Forest) → Makings (rest_of q.left x (none ∷ [])) ks y →
     Makes q.category (js ++ ks) y
 
 abbrev LeadAll : Forest → List Record → List Followed → Type 0
@@ -56,11 +56,11 @@ data At (is : Items) (x : Forest) (xs : List Forest) (ks all : List Record) : Ty
 
 abbrev Claim : Goal → List Record → Forest → Type 0
 Claim (one p) ks y = Stands IsMade ks y
-Claim (rest_of is x xs us) ks y = (all : List Record) → At is x xs ks all → Stands IsMade all y
+Claim (rest_of is x xs) ks y = (all : List Record) → At is x xs ks all → Stands IsMade all y
 
 -- an attribute begins with no brace, nor does what begins with such a piece
 attr_apart : {ks : List Record} {u : Forest} (js : List Record) → Makes Attr ks u → next_kind (ks ++ js) ≡ L_CURLY → ⊥
-attr_apart {ks = ks} {u = u} js d h = of_good (claim checked known d js (sees_anything js))
+attr_apart {ks = ks} {u = u} js d h = of_good (claim checked d js (sees_anything js))
   where
     of_good : Good table (cat Attr) ks u js → ⊥
     of_good (good_category s n p o z) =
@@ -79,14 +79,14 @@ piece_apart (comp k) is js d h i = absurd cc
 piece_apart (cat c) is {ks = ks} {u = u} js d h i =
     attr_apart js (subst (λ (n : ℕ). Makes n ks u) (same_number c Attr h) d) i
 
-apart : {is : Items} {x : Forest} {xs us : List Forest} {ks : List Record} {y : Forest} →
-    Makings (rest_of is x xs us) ks y → no_brace_first is ≡ true → next_kind ks ≡ L_CURLY → ⊥
+apart : {is : Items} {x : Forest} {xs : List Forest} {ks : List Record} {y : Forest} →
+    Makings (rest_of is x xs) ks y → no_brace_first is ≡ true → next_kind ks ≡ L_CURLY → ⊥
 apart (begun d) h i = apart d h i
 apart (put {p = p} {is = is} {js = js} d e) h i = piece_apart p is js d h i
 apart d h i = absurd cc
 
-starts_apart : (new : Bool) (js ks : List Record) {is : Items} {x : Forest} {xs us : List Forest} {y : Forest} →
-    StartsNew new js → Makings (rest_of is x xs us) ks y → new ≡ true → no_brace_first is ≡ true →
+starts_apart : (new : Bool) (js ks : List Record) {is : Items} {x : Forest} {xs : List Forest} {y : Forest} →
+    StartsNew new js → Makings (rest_of is x xs) ks y → new ≡ true → no_brace_first is ≡ true →
     next_kind (js ++ ks) ≡ L_CURLY → ⊥
 starts_apart true js ks s d n h i = apart d h (subst (λ (is : List Record). next_kind (is ++ ks) ≡ L_CURLY) s i)
 starts_apart false js ks s d n h i = absurd cc
@@ -101,7 +101,7 @@ told false is n o = o
 -- the rows of categories, followed from their first pieces
 from_start : (c n : ℕ) (is : Items) → row_at n (table.rows c) ≡ Some (begin is) →
     Leads none [] (record { category = c; left = is })
-from_start c n is e = λ us ks y d. by_row n e (begun d)
+from_start c n is e = λ ks y d. by_row n e (begun d)
 
 all_lead : LeadAll none [] all_followed
 all_lead = (
@@ -144,7 +144,7 @@ past_one : (x u : Forest) (js ks : List Record) {p : Piece} → Makings (one p) 
     LeadAll (x ⧺ u) (js ++ ks) (past_piece p c left qs)
 past_one x u js ks {p = p} d c (piece q is) qs l m =
     lead_same (x ⧺ u) (js ++ ks) (same_piece q p) (record { category = c; left = is }) qs
-    (λ h us ls y e. rw (append_assoc js ks ls) (l (u ∷ us) (ks ++ ls) y
+    (λ h ls y e. rw (append_assoc js ks ls) (l (ks ++ ls) y
     (put (subst (λ (r : Piece). Makings (one r) ks u) (sym (same_piece_so q p h)) d) e))) m
 past_one x u js ks d c left qs l m = m
 
@@ -155,18 +155,18 @@ lead_piece x u js ks {p = p} d (q ∷ qs) l =
     past_one x u js ks d q.category q.left (step_piece p qs) l.0 (lead_piece x u js ks d qs l.1)
 
 -- on past turns
-past_some : (x u : Forest) (js ks : List Record) {a z : Items} → Makings (rest_of (turns_of a z) none [] []) ks u →
+past_some : (x u : Forest) (js ks : List Record) {a z : Items} → Makings (rest_of (turns_of a z) none []) ks u →
     (c : ℕ) (left : Items) (qs : List Followed) → Leads x js (record { category = c; left = left }) →
     LeadAll (x ⧺ u) (js ++ ks) qs → LeadAll (x ⧺ u) (js ++ ks) (past_turns a z c left qs)
 past_some x u js ks {a = a} {z = z} d c (repeat b y is) qs l m =
     lead_same (x ⧺ u) (js ++ ks) (same_items b a && same_items y z) (record { category = c; left = is }) qs
-    (λ h us ls t e. rw (append_assoc js ks ls) (l (u ∷ us) (ks ++ ls) t
-    (repeated
+    (λ h ls t e. rw (append_assoc js ks ls) (l (ks ++ ls) t
+    (repeated {u = u}
     (rw (same_items_so b a (and_left (same_items b a) _ h), same_items_so y z (and_right (same_items b a) _ h)) d) e)))
     m
 past_some x u js ks d c left qs l m = m
 
-lead_turns : (x u : Forest) (js ks : List Record) {a z : Items} → Makings (rest_of (turns_of a z) none [] []) ks u →
+lead_turns : (x u : Forest) (js ks : List Record) {a z : Items} → Makings (rest_of (turns_of a z) none []) ks u →
     (qs : List Followed) → LeadAll x js qs → LeadAll (x ⧺ u) (js ++ ks) (step_turns a z qs)
 lead_turns x u js ks d [] l = tt
 lead_turns x u js ks {a = a} {z = z} d (q ∷ qs) l =
@@ -187,7 +187,7 @@ of_followed : (k c : ℕ) (left : Items) (x : Forest) (js : List Record) → end
 of_followed k c (close j nil) x js h l = λ i.
     let e = same_number j k (and_left (j == k) _ h) in
     of_same (category_in parsed_again k) c js (node none k x) (and_right (j == k) _ h)
-    (subst (λ (n : ℕ). Makes c js (node none n x)) e (rw append-nil at (l [] [] (node none j x) (closed ended))))
+    (subst (λ (n : ℕ). Makes c js (node none n x)) e (rw append-nil at (l [] (node none j x) (closed ended))))
 of_followed k c left x js h l = absurd cc
 
 of_some : (k : ℕ) (qs : List Followed) (x : Forest) (js : List Record) → ends_some k qs ≡ true → LeadAll x js qs →
@@ -217,8 +217,8 @@ at_end : {x : Forest} {all : List Record} {is : Items} → At is x [] [] all →
 at_end {x = x} (at d qs new fs js h s l n o) =
     subst (λ (ks : List Record). Stands IsMade ks x) (rw append-nil at (all_own o)) s
 
-at_begin : {is : Items} {x y : Forest} {xs us : List Forest} {ks all : List Record} →
-    Makings (rest_of (begin is) x xs us) ks y → At (begin is) x xs ks all → At is none (x ∷ xs) ks all
+at_begin : {is : Items} {x y : Forest} {xs : List Forest} {ks all : List Record} →
+    Makings (rest_of (begin is) x xs) ks y → At (begin is) x xs ks all → At is none (x ∷ xs) ks all
 at_begin e (at zero qs new fs js h s l n o) = absurd cc
 at_begin {is = is} e (at (suc d) qs new fs js h s l n o) =
     at d all_followed true (false ∷ told_first new (begin is) fs) [] h empty all_lead refl
@@ -233,8 +233,8 @@ at_close {k = k} {x = x} {ks = ks} (at (suc d) qs new (f ∷ fs) js h s l n (one
     at d [] false fs (os ++ js) (and_right c _ h) (with_node t s (made k f qs x js ks (and_left c _ h) l m)) tt tt
     (rw (append_assoc os js ks) o)
 
-at_piece : {p : Piece} {is : Items} {x y u : Forest} {xs us : List Forest} {ks js all : List Record} →
-    Makings (one p) ks u → Makings (rest_of (piece p is) x xs us) (ks ++ js) y → Stands IsMade ks u →
+at_piece : {p : Piece} {is : Items} {x y u : Forest} {xs : List Forest} {ks js all : List Record} →
+    Makings (one p) ks u → Makings (rest_of (piece p is) x xs) (ks ++ js) y → Stands IsMade ks u →
     At (piece p is) x xs (ks ++ js) all → At is (x ⧺ u) xs js all
 at_piece e g t (at zero qs new fs is h s l n o) = absurd cc
 at_piece {p = p} {is = is} {x = x} {u = u} {ks = ks} {js = js} e g t (at (suc d) qs new fs os h s l n o) =
@@ -295,7 +295,7 @@ at_turns {a = a} {z = z} js (at (suc d) qs new fs os h s l n o) =
     alone (suc d) js (and_left (parts_so d [] false [] a && parts_so d [] false [] z) _ h)
 
 at_repeated : {a z is : Items} {x u : Forest} {xs : List Forest} {ks js all : List Record} →
-    Makings (rest_of (turns_of a z) none [] []) ks u → Stands IsMade ks u → At (repeat a z is) x xs (ks ++ js) all →
+    Makings (rest_of (turns_of a z) none []) ks u → Stands IsMade ks u → At (repeat a z is) x xs (ks ++ js) all →
     At is (x ⧺ u) xs js all
 at_repeated e t (at zero qs new fs os h s l n o) = absurd cc
 at_repeated {a = a} {z = z} {x = x} {u = u} {ks = ks} {js = js} e t (at (suc d) qs new fs os h s l n o) =
@@ -412,7 +412,6 @@ row_holds c n row e =
     of_all (parts_so depth [] false []) (entry_at c entries).rows n row (entry_holds entries c all_hold) e
 
 stands : {g : Goal} {ks : List Record} {y : Forest} → Makings g ks y → Claim g ks y
-stands (beside d parts) = absurd d
 stands (by_row {c = c} {row = row} {ks = ks} n e d) = stands d ks (alone depth ks (row_holds c n row e))
 stands (a_token {r = r} m w) = with_leaf (r ∷ []) empty refl
 stands (a_word {r = r} e i) = with_leaf (r ∷ []) empty refl
@@ -443,7 +442,7 @@ category_used d = used-stands (stands d)
 -- what stands under the node of an entry
 row_stands : {is : Items} {ks : List Record} {y : Forest} → parts_so depth [] false [] is ≡ true → MakesRow is ks y →
     Stands IsMade ks y
-row_stands {ks = ks} h d = stands d.derives ks (alone depth ks h)
+row_stands {ks = ks} h d = stands d ks (alone depth ks h)
 
 under : {kind : ℕ} {ks : List Record} {y : Forest} → is_none (category_in parsed_again kind) ≡ true →
     Stands IsMade ks y → Stands IsMade ks (node none kind y)

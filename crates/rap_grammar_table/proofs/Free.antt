@@ -8,9 +8,9 @@ use Rattle.rap_grammar_scripts.specs.Script.{Spot}
 use Rattle.rap_grammar_scripts.specs.declared.rule.Rule.{Rule}
 use Rattle.rap_grammar_table.specs.Good.{Good, good_category, Reads}
 use Rattle.rap_grammar_table.specs.Known.{Sees}
-use Rattle.rap_grammar_table.specs.Table.{Table, Goal, one, rest_of, cat, Part, Among, Beside, Derives, beside, by_row, a_token, a_word, an_operator, ended, begun, closed, put, first_way, second_way, last_turn, one_turn, repeated, grouped, folded_none, folded_more, folded, guarded}
+use Rattle.rap_grammar_table.specs.Table.{Table, Goal, one, rest_of, cat, Derives, by_row, a_token, a_word, an_operator, ended, begun, closed, put, first_way, second_way, last_turn, one_turn, repeated, grouped, folded_none, folded_more, folded, guarded}
 use Rattle.rap_grammar_table.specs.Ways.{some_outcome}
-use Rattle.rap_grammar_table.proofs.Sound.{Checked, Known, claim}
+use Rattle.rap_grammar_table.proofs.Sound.{Checked, claim}
 use Rattle.rap_grammar_table.proofs.Values.{none-⧺}
 
 read_alone : {t : Table} {c : ℕ} {ks l : List Record} {y : Forest} (r : Rule) → some_outcome (t.reads r c) ≡ true →
@@ -18,12 +18,11 @@ read_alone : {t : Table} {c : ℕ} {ks l : List Record} {y : Forest} (r : Rule) 
 read_alone r h (good_category x n p o z) = z r none [] h
 
 -- the same tokens of a category have one tree, before tokens that may follow
-pub unique : {t : Table} {given : Beside} → Checked t → Known t given → (c : ℕ) (r : Rule) →
-    some_outcome (t.reads r c) ≡ true → {ks : List Record} {y z : Forest} → Derives t given (one (cat c)) ks y →
-    Derives t given (one (cat c)) ks z → (l : List Record) → Sees (t.follows c) l → y ≡ z
-unique o k c r h {y = y} {z = z} d e l s =
-    let m = read_alone r h (claim o k d l s) in
-    let n = read_alone r h (claim o k e l s) in
+pub unique : {t : Table} → Checked t → (c : ℕ) (r : Rule) → some_outcome (t.reads r c) ≡ true → {ks : List Record}
+    {y z : Forest} → Derives t (one (cat c)) ks y → Derives t (one (cat c)) ks z → (l : List Record) → Sees (t.follows c) l → y ≡ z
+unique o c r h {y = y} {z = z} d e l s =
+    let m = read_alone r h (claim o d l s) in
+    let n = read_alone r h (claim o e l s) in
     let same = one_end m.run n.run in
     sym (none-⧺ y) ∙ (ap (λ (p : Spot). p.forest) same.spot ∙ none-⧺ z)
 
@@ -34,7 +33,7 @@ none_in (x ∷ xs) = (message_count x ≡ 0) × none_in xs
 
 abbrev Clean : Goal → Forest → Type 0
 Clean (one p) y = message_count y ≡ 0
-Clean (rest_of is x xs us) y = message_count x ≡ 0 → none_in xs → message_count y ≡ 0
+Clean (rest_of is x xs) y = message_count x ≡ 0 → none_in xs → message_count y ≡ 0
 
 both_clean : (x u : Forest) → message_count x ≡ 0 → message_count u ≡ 0 → message_count (x ⧺ u) ≡ 0
 both_clean x u h i = omega (arith, message_count-⧺ x u, h, i)
@@ -48,28 +47,24 @@ left_clean a b h = omega (arith, h)
 right_clean : (a b : ℕ) → a + b ≡ 0 → b ≡ 0
 right_clean a b h = omega (arith, h)
 
-pub clean : {t : Table} {given : Beside} →
-    ((c : ℕ) (ps : List Part) (ks : List Record) (y : Forest) → given c ps ks y →
-    ((p : Part) → Among p ps → message_count p.tree_is ≡ 0) → message_count y ≡ 0) →
-    {g : Goal} {ks : List Record} {y : Forest} → Derives t given g ks y → Clean g y
-clean k (beside {c = m} {ps = ps} {ks = ks} {x = y} d parts) = k m ps ks y d (λ p i. clean k (parts p i))
-clean k (by_row n e d) = clean k d refl tt
-clean k (a_token m w) = refl
-clean k (a_word e i) = refl
-clean k (an_operator x) = refl
-clean k ended = λ h i. h
-clean k (begun d) = λ h i. clean k d refl (h, i)
-clean k (closed {x = x} {z = z} d) = λ h i. clean k d (sum_clean (message_count z) (message_count x) i.0 h) i.1
-clean k (put {x = x} {u = u} d e) = λ h i. clean k e (both_clean x u h (clean k d)) i
-clean k (first_way d) = λ h i. clean k d h i
-clean k (second_way d) = λ h i. clean k d h i
-clean k (last_turn d) = λ h i. clean k d refl tt
-clean k (one_turn {x = x} {y = y} d e) = λ h i. both_clean x y (clean k d refl tt) (clean k e refl tt)
-clean k (repeated {x = x} {u = u} d e) = λ h i. clean k e (both_clean x u h (clean k d refl tt)) i
-clean k (grouped {x = x} {u = u} d e) = λ h i. clean k e (both_clean x u h (clean k d refl tt)) i
-clean k (guarded g d) = λ h i. clean k d h i
-clean k folded_none = λ h i. h
-clean k (folded_more w i d e) = λ h i. clean k e (clean k d h (refl, tt)) tt
-clean k (folded {c = cs} {x = x} {u = u} d e) = λ h i.
-    clean k e (both_clean x u (left_clean (message_count x) (message_count cs) h)
-    (clean k d (sum_clean 0 (message_count cs) refl (right_clean (message_count x) (message_count cs) h)) tt)) i
+pub clean : {t : Table} {g : Goal} {ks : List Record} {y : Forest} → Derives t g ks y → Clean g y
+clean (by_row n e d) = clean d refl tt
+clean (a_token m w) = refl
+clean (a_word e i) = refl
+clean (an_operator x) = refl
+clean ended = λ h i. h
+clean (begun d) = λ h i. clean d refl (h, i)
+clean (closed {x = x} {z = z} d) = λ h i. clean d (sum_clean (message_count z) (message_count x) i.0 h) i.1
+clean (put {x = x} {u = u} d e) = λ h i. clean e (both_clean x u h (clean d)) i
+clean (first_way d) = λ h i. clean d h i
+clean (second_way d) = λ h i. clean d h i
+clean (last_turn d) = λ h i. clean d refl tt
+clean (one_turn {x = x} {y = y} d e) = λ h i. both_clean x y (clean d refl tt) (clean e refl tt)
+clean (repeated {x = x} {u = u} d e) = λ h i. clean e (both_clean x u h (clean d refl tt)) i
+clean (grouped {x = x} {u = u} d e) = λ h i. clean e (both_clean x u h (clean d refl tt)) i
+clean (guarded g d) = λ h i. clean d h i
+clean folded_none = λ h i. h
+clean (folded_more w i d e) = λ h i. clean e (clean d h (refl, tt)) tt
+clean (folded {c = cs} {x = x} {u = u} d e) = λ h i.
+    clean e (both_clean x u (left_clean (message_count x) (message_count cs) h)
+    (clean d (sum_clean 0 (message_count cs) refl (right_clean (message_count x) (message_count cs) h)) tt)) i

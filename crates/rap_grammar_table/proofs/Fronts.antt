@@ -27,8 +27,8 @@ use Rattle.rap_grammar_table.specs.Known.{Place, Sees, says, this_way}
 use Rattle.rap_grammar_table.specs.Look.{anything, followed, look}
 use Rattle.rap_grammar_table.specs.Refusal.{Verdict, accepted}
 use Rattle.rap_grammar_table.specs.Rows.{table}
-use Rattle.rap_grammar_table.specs.Table.{Items, nil, piece, cat, put, ended, by_row, beside}
-use Rattle.rap_grammar_table.specs.Tops.{nothing_given, Makes, MakesRow}
+use Rattle.rap_grammar_table.specs.Table.{Items, nil, piece, cat, put, ended, by_row}
+use Rattle.rap_grammar_table.specs.Tops.{Makes, MakesRow}
 use Rattle.rap_grammar_table.specs.Walk.{all_accepted, nesting, reads_row}
 use Rattle.rap_grammar_table.specs.Ways.{has_outcome}
 use Rattle.rap_grammar_table.proofs.Entries.{all_rows, of_all}
@@ -37,12 +37,9 @@ use Rattle.rap_grammar_table.proofs.Known.{weaker}
 use Rattle.rap_grammar_table.proofs.Look.{seen}
 use Rattle.rap_grammar_table.proofs.Rows.{checked}
 use Rattle.rap_grammar_table.proofs.Scripts.{scripts}
-use Rattle.rap_grammar_table.proofs.Sound.{Known, claim, of_accepted, row_read}
+use Rattle.rap_grammar_table.proofs.Sound.{claim, of_accepted, row_read}
 use Rattle.rap_grammar_table.proofs.Tests.{tests}
 use Rattle.rap_grammar_table.proofs.Values.{none-⧺}
-
-pub known : Known table nothing_given
-known = record { is_read = λ c ps ks y d parts l s. absurd d }
 
 only_something : (v : Outcome) → has_outcome (something ∷ []) v ≡ true → v ≡ something
 only_something nothing h = absurd cc
@@ -69,8 +66,8 @@ reads_so g s is = reads_row table g s (something ∷ []) is
 row_adds : (is : Items) (g : List (List Place)) {ks l : List Record} {y : Forest} (s : Script Rule) →
     reads_so g s is ≡ accepted → followed table is g g ≡ true → MakesRow is ks y → Sees g l → AddsOf s ks l y
 row_adds is g {ks = ks} {l = l} {y = y} s h w d e f b =
-    let m = claim checked known d.derives g l e w in
-    let r = row_read table nesting g s (something ∷ []) is l ks d.pieces y f b e m h in
+    let m = claim checked d g l e w in
+    let r = row_read table nesting g s (something ∷ []) is l ks m.pieces y f b e m.made h in
     rw (only_something r.outcome r.among_them) at r.run
 
 pub row_made : (is : Items) (g : List (List Place)) {ks l : List Record} {y : Forest} (s : Script Rule) →
@@ -86,10 +83,9 @@ rows_so g s c = all_accepted (reads_so g s) (table.rows c)
 
 by_rows_add : (c : ℕ) (g : List (List Place)) {ks l : List Record} {y : Forest} (s : Script Rule) →
     rows_so g s c ≡ accepted → followed_so c g ≡ true → Makes c ks y → Sees g l → AddsOf s ks l y
-by_rows_add c g s h w (by_row {row = row} {us = us} n e d) i =
+by_rows_add c g s h w (by_row {row = row} n e d) i =
     row_adds row g s (of_accepted (reads_so g s) (table.rows c) n row h e)
-    (of_all (λ is. followed table is g g) (table.rows c) n row w e) (record { pieces = us; derives = d }) i
-by_rows_add c g s h w (beside d parts) i = absurd d
+    (of_all (λ is. followed table is g g) (table.rows c) n row w e) d i
 
 by_rows_made : (c : ℕ) (g : List (List Place)) {ks l : List Record} {y : Forest} (s : Script Rule) →
     rows_so g s c ≡ accepted → followed_so c g ≡ true → Makes c ks y → Sees g l → MakesOf s ks l y
@@ -102,14 +98,12 @@ begins_so c g = all_rows (λ is. says (look table is g) (table.firsts c)) (table
 by_rows_seen : (c : ℕ) (g : List (List Place)) {ks l : List Record} {y : Forest} → followed_so c g ≡ true →
     begins_so c g ≡ true → Makes c ks y → Sees g l → Sees (table.firsts c) (ks ++ l)
 by_rows_seen c g {ks = ks} {l = l} w h (by_row {row = row} n e d) i =
-    let m = claim checked known d g l i (of_all (λ is. followed table is g g) (table.rows c) n row w e) in
+    let m = claim checked d g l i (of_all (λ is. followed table is g g) (table.rows c) n row w e) in
     weaker (look table row g) (table.firsts c) (ks ++ l)
-    (of_all (λ is. says (look table is g) (table.firsts c)) (table.rows c) n row h e) (seen table g m i)
-by_rows_seen c g w h (beside d parts) i = absurd d
+    (of_all (λ is. says (look table is g) (table.firsts c)) (table.rows c) n row h e) (seen table g m.made i)
 
 pub category_row : (c : ℕ) {ks : List Record} {y : Forest} → Makes c ks y → MakesRow (piece (cat c) nil) ks y
-category_row c {ks = ks} {y = y} d =
-    record { pieces = y ∷ []; derives = rw (append-nil, none-⧺) at (put {x = none} d ended) }
+category_row c d = rw (append-nil, none-⧺) at (put {x = none} d ended)
 
 category_made : (c : ℕ) (g : List (List Place)) {ks l : List Record} {y : Forest} (s : Script Rule) →
     reads_so g s (piece (cat c) nil) ≡ accepted → followed table (piece (cat c) nil) g g ≡ true → Makes c ks y →
@@ -122,13 +116,13 @@ node_of c h (good_category x n u o z) = n h
 
 pub node_made : (c : ℕ) {ks : List Record} {y : Forest} (l : List Record) → table.is_node c ≡ true →
     Sees (table.follows c) l → Makes c ks y → IsNode y
-node_made c l h s d = node_of c h (claim checked known d l s)
+node_made c l h s d = node_of c h (claim checked d l s)
 
 pub row_clean : {is : Items} {ks : List Record} {y : Forest} → MakesRow is ks y → message_count y ≡ 0
-row_clean d = clean (λ c ps ks y d parts. absurd d) d.derives refl tt
+row_clean d = clean d refl tt
 
 pub category_clean : {c : ℕ} {ks : List Record} {y : Forest} → Makes c ks y → message_count y ≡ 0
-category_clean d = clean (λ c ps ks y d parts. absurd d) d
+category_clean d = clean d
 
 -- types, expressions, patterns, and what stands in an attribute
 type_read : reads_so (table.follows Ty) type_ (piece (cat Ty) nil) ≡ accepted

@@ -12,18 +12,6 @@ pub mod FrontRows
 pub mod Fronts
 pub mod GenericRows
 pub mod Heads
-pub mod InTable
-pub mod Included
-pub mod IncludedBrackets
-pub mod IncludedExpressions
-pub mod IncludedItems
-pub mod IncludedLists
-pub mod IncludedOperands
-pub mod IncludedOperators
-pub mod IncludedRows
-pub mod IncludedStatements
-pub mod IncludedTurns
-pub mod IncludedTypes
 pub mod ItemRows
 pub mod Known
 pub mod Lasts
@@ -38,7 +26,6 @@ pub mod Parts
 pub mod PatternRows
 pub mod Pieces
 pub mod Refused
-pub mod RelationTree
 pub mod Rows
 pub mod Scripts
 pub mod Shaped

@@ -5,7 +5,7 @@ use Rattle.rap_events.specs.Record.{Record}
 use Rattle.rap_grammar_table.specs.Good.{Good}
 use Rattle.rap_grammar_table.specs.Known.{Sees}
 use Rattle.rap_grammar_table.specs.Rows.{table, entries}
-use Rattle.rap_grammar_table.specs.Table.{Beside, Derives, one, cat}
+use Rattle.rap_grammar_table.specs.Table.{Derives, one, cat}
 use Rattle.rap_grammar_table.proofs.AttributeRows.{attributes, conditions as cfg_conditions, macro_paths, metas, token_trees, inner_attributes}
 use Rattle.rap_grammar_table.proofs.ClosedRows.{closed_4, closed_5, closed_6, closed_7, closed_8, closed_9, closed_10, closed_11, closed_12, closed_forbidden_4, closed_forbidden_5, closed_forbidden_6, closed_forbidden_7, closed_forbidden_8, closed_forbidden_9, closed_forbidden_10, closed_forbidden_11, closed_forbidden_12, with_cast_4, with_cast_5, with_cast_forbidden_4, with_cast_forbidden_5, with_cast_6, with_cast_7, with_cast_8, with_cast_9, with_cast_10, with_cast_11, with_cast_12, with_cast_forbidden_6, with_cast_forbidden_7, with_cast_forbidden_8, with_cast_forbidden_9, with_cast_forbidden_10, with_cast_forbidden_11, with_cast_forbidden_12}
 use Rattle.rap_grammar_table.proofs.Entries.{none_left, ◌then◌, checked_of}
@@ -15,7 +15,7 @@ use Rattle.rap_grammar_table.proofs.GenericRows.{arguments, generic_params, gene
 use Rattle.rap_grammar_table.proofs.ItemRows.{fn_params, items, record_fields_so, variants, visibilities, use_trees}
 use Rattle.rap_grammar_table.proofs.OperatorRows.{assigneds, conditions, expressions, guards, open_4, open_5, range_ends, range_ends_forbidden}
 use Rattle.rap_grammar_table.proofs.PatternRows.{param_patterns, pattern_paths, patterns, rest_patterns, single_patterns}
-use Rattle.rap_grammar_table.proofs.Sound.{Checked, Known, claim}
+use Rattle.rap_grammar_table.proofs.Sound.{Checked}
 use Rattle.rap_grammar_table.proofs.StmtRows.{arms, block_stmts, blocks, empty_stmts, ending_blocks, ifs, last_arms, macro_tails, stmt_blocks, stmt_exprs_so, stmt_lists, stmts, tails, with_blocks_so}
 use Rattle.rap_grammar_table.proofs.TypeRows.{anchor_traits, anchored_paths, bound_lists, bounds, fn_pointer_params, global_paths, param_names, path_args, paths, paths_before_plus, plain_types, symbol_types_so, types, types_before_plus, use_paths, expr_paths, simple_paths, trait_refs}
 
@@ -44,8 +44,3 @@ checked =
     item_lists then assoc_lists then extern_lists then value_lists then arm_lists then front_stmts then last_stmts then
     record_value_rows then with_cast_4 then with_cast_5 then with_cast_forbidden_4 then with_cast_forbidden_5 then
     assigneds then none_left)
-
--- so what the table derives is what the scripts make
-pub complete : {given : Beside} → Known table given → (c : ℕ) {ks : List Record} {y : Forest} →
-    Derives table given (one (cat c)) ks y → (l : List Record) → Sees (table.follows c) l → Good table (cat c) ks y l
-complete k c d l s = claim checked k d l s

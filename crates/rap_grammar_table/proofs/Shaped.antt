@@ -3,13 +3,12 @@ use Rattle.std.proofs.Common.{◌≡◌, ◌==◌, ℕ, true, false, List, [], �
 use Rattle.rap_events.proofs.Truth.{or_left}
 use Rattle.rap_events.specs.Forest.{Forest, none, node, leaf, message, split, ◌⧺◌}
 use Rattle.rap_events.specs.Record.{Record}
-use Rattle.rap_grammar_core.specs.StandsIn.{NodeAt, last_node, in_last_node, before_node, before_leaf, before_message, before_split}
+use Rattle.rap_grammar_ends.specs.StandsIn.{NodeAt, last_node, in_last_node, before_node, before_leaf, before_message, before_split}
 use Rattle.rap_grammar_scripts.specs.Test.{Test}
 use Rattle.rap_grammar_table.specs.Known.{Place}
 use Rattle.rap_grammar_table.specs.Rows.{table}
 use Rattle.rap_grammar_table.specs.Shapes.{Child, node_child, children_of, Shape, Spells, a_leaf, turns, piece_shape}
-use Rattle.rap_grammar_table.specs.Table.{Piece, Items, nil, begin, close, piece, choice, repeat, turns_of, group, folds, folding, unless, appended, HasWay, Goal, one, rest_of, row_at, Derives, beside, by_row, a_token, a_word, an_operator, ended, begun, closed, put, first_way, second_way, last_turn, one_turn, repeated, grouped, folded_none, folded_more, folded, guarded}
-use Rattle.rap_grammar_table.specs.Tops.{nothing_given}
+use Rattle.rap_grammar_table.specs.Table.{Piece, Items, nil, begin, close, piece, choice, repeat, turns_of, group, folds, folding, unless, appended, HasWay, Goal, one, rest_of, row_at, Derives, by_row, a_token, a_word, an_operator, ended, begun, closed, put, first_way, second_way, last_turn, one_turn, repeated, grouped, folded_none, folded_more, folded, guarded}
 use Rattle.rap_grammar_table.proofs.Look.{same_self}
 use Rattle.rap_grammar_table.proofs.Spells.{children-⧺, spells_last, spells_turn, within, within_so}
 
@@ -83,7 +82,7 @@ Comes H y x = AllSo H x × Spells y (children_of x)
 
 abbrev Claim : (ℕ → Shape) → OfChildren → Goal → Forest → Type 0
 Claim f H (one p) y = Comes H (piece_shape f p) y
-Claim f H (rest_of is x xs us) y =
+Claim f H (rest_of is x xs) y =
     (w : Shape) → Fits f H is x xs w → AllSo H x → EachSo H xs → Comes H w y
 
 at_end : {f : ℕ → Shape} {H : OfChildren} {x : Forest} {w : Shape} → Fits f H nil x [] w → AllSo H x → Comes H w x
@@ -157,8 +156,7 @@ abbrev pub RowsFit : (ℕ → Shape) → OfChildren → Type 0
 RowsFit f H = (category n : ℕ) (row : Items) → row_at n (table.rows category) ≡ Some row → RowFits f H category row
 
 pub shaped : {f : ℕ → Shape} {H : OfChildren} {g : Goal} {ks : List Record} {y : Forest} → RowsFit f H →
-    Derives table nothing_given g ks y → Claim f H g y
-shaped o (beside d parts) = absurd d
+    Derives table g ks y → Claim f H g y
 shaped {f = f} o (by_row {c = c} {row = row} n e d) =
     let r = o c n row e in let q = shaped o d r.whole r.fits tt tt in
     (q.0, within_so r.whole (f c) r.is_within q.1)

@@ -20,7 +20,7 @@ top_so : (f : ℕ → Shape) (H : OfChildren) (kind : ℕ) (row : Items) {ks : L
     AllHave H (nodes_over f kind row) → part_so f false nothing [] row ≡ true → MakesRow row ks y →
     AllSo H (node none kind y)
 top_so f H kind row {y = y} r o h d =
-    let q = shaped r d.derives (ends f nothing [] row) (whole_fits f H row o.1 h) tt tt in
+    let q = shaped r d (ends f nothing [] row) (whole_fits f H row o.1 h) tt tt in
     (tt, q.0, o.0 _ q.1)
 
 -- the nodes under each entry's node, and behind these those of the others and of all rows

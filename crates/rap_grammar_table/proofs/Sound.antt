@@ -12,7 +12,7 @@ use Rattle.rap_grammar_table.specs.Known.{Place, Sees, says}
 use Rattle.rap_grammar_table.specs.Lasts.{ends_plain}
 use Rattle.rap_grammar_table.specs.Look.{look, after_way, no_ways, followed, followed_in, followed_piece, anything, is_one_node, depth}
 use Rattle.rap_grammar_table.specs.Refusal.{ends_as, check, in_part, Verdict, accepted}
-use Rattle.rap_grammar_table.specs.Table.{Table, Piece, tok, word, comp, cat, Items, nil, begin, close, piece, choice, repeat, turns_of, group, folds, folding, way, unless, appended, HasWay, first_turn, other_turn, Goal, one, rest_of, row_at, Part, Among, Beside, Derives, beside, by_row, a_token, a_word, an_operator, ended, begun, closed, put, first_way, second_way, last_turn, one_turn, repeated, grouped, folded_none, folded_more, folded, guarded}
+use Rattle.rap_grammar_table.specs.Table.{Table, Piece, tok, word, comp, cat, Items, nil, begin, close, piece, choice, repeat, turns_of, group, folds, folding, way, unless, appended, HasWay, first_turn, other_turn, Goal, one, rest_of, row_at, Derives, by_row, a_token, a_word, an_operator, ended, begun, closed, put, first_way, second_way, last_turn, one_turn, repeated, grouped, folded_none, folded_more, folded, guarded}
 use Rattle.rap_grammar_table.specs.Walk.{walk, reads_row, reads_row_by, reads_rows, nesting, part_so, all_accepted}
 use Rattle.rap_grammar_table.specs.Ways.{has_outcome, some_outcome, ends_so}
 use Rattle.rap_grammar_table.proofs.Known.{weaker}
@@ -74,10 +74,16 @@ MayFollow t (word k) l = Unit {0}
 MayFollow t (comp k) l = Unit {0}
 MayFollow t (cat c) l = Sees (t.follows c) l
 
+-- the rest of a row, of some pieces
+pub record MadeOf (t : Table) (l : List Record) (is : Items) (x : Forest) (xs : List Forest) (ks : List Record)
+    (y : Forest) : Type 0 where
+  pub pieces : List Forest
+  pub made : Made t l is x xs pieces ks y
+
 abbrev pub Claim : Table → Goal → List Record → Forest → Type 0
 Claim t (one p) ks y = (l : List Record) → MayFollow t p l → Good t p ks y l
-Claim t (rest_of is x xs us) ks y = (g : List (List Place)) (l : List Record) → Sees g l → followed t is g g ≡ true →
-    Made t l is x xs us ks y
+Claim t (rest_of is x xs) ks y = (g : List (List Place)) (l : List Record) → Sees g l → followed t is g g ≡ true →
+    MadeOf t l is x xs ks y
 
 abbrev AfterTurn : Type 0
 AfterTurn = ℕ → List (List Place)
@@ -135,72 +141,82 @@ may_follow t (word k) g l h s = tt
 may_follow t (comp k) g l h s = tt
 may_follow t (cat c) g l h s = weaker g (t.follows c) l h s
 
--- what is derived beside the table is read too, if its parts are
-pub record Known (t : Table) (given : Beside) : Type 0 where
-  pub is_read : (c : ℕ) (ps : List Part) (ks : List Record) (y : Forest) → given c ps ks y →
-      ((p : Part) → Among p ps → (l : List Record) → Sees (t.follows p.category) l →
-      Good t (cat p.category) p.tokens p.tree_is l) → (l : List Record) → Sees (t.follows c) l →
-      Good t (cat c) ks y l
+-- turns have no pieces of their own, nor have nodes around the last one
+turns_made : {t : Table} {l : List Record} {a z : Items} {us : List Forest} {ks : List Record} {y : Forest} →
+    Made t l (turns_of a z) none [] us ks y → Made t l (turns_of a z) none [] [] ks y
+turns_made (made_last m) = made_last m
+turns_made (made_turn m n) = made_turn m n
 
-pub claim : {t : Table} {given : Beside} → Checked t → Known t given → {g : Goal}
-    {ks : List Record} {y : Forest} → Derives t given g ks y → Claim t g ks y
-claim o k (beside {c = c} {ps = ps} {ks = ks} {x = y} d parts) = λ l s.
-    k.is_read c ps ks y d (λ p i m r. claim o k (parts p i) m r) l s
-claim {t = t} o k (by_row {c = c} {row = row} {ks = ks} {x = y} {us = us} n e d) = λ l s.
-    let m = claim o k d (t.follows c) l s (o.followed c n row e) in
+folding_made : {t : Table} {l : List Record} {n : ℕ} {ws : Items} {x : Forest} {us : List Forest} {ks : List Record}
+    {y : Forest} → Made t l (folding n ws) x [] us ks y → Made t l (folding n ws) x [] [] ks y
+folding_made made_folded_none = made_folded_none
+folding_made (made_folded_more w i m n) = made_folded_more w i m n
+
+pub claim : {t : Table} → Checked t → {g : Goal} {ks : List Record} {y : Forest} → Derives t g ks y → Claim t g ks y
+claim {t = t} o (by_row {c = c} {row = row} {ks = ks} {x = y} n e d) = λ l s.
+    let q = claim o d (t.follows c) l s (o.followed c n row e) in
+    let m = q.made in
     good_category
     (weaker (look t row (t.follows c)) (t.firsts c) (ks ++ l) (o.begins c n row e) (seen t (t.follows c) m s))
     (λ h. one_node depth m (o.is_node c n row e h))
     (λ h. unbraced m (o.unbraced c n row e h))
-    (λ h i a vs f b w. rows_read t i c n row e a vs l ks us y f b s m w)
+    (λ h i a vs f b w. rows_read t i c n row e a vs l ks q.pieces y f b s m w)
     (λ r f b h.
-    let x = row_read t nesting (t.follows c) (script_of r) (t.reads r c) row l ks us y f b s m (o.reads c n row e r h) in
+    let x = row_read t nesting (t.follows c) (script_of r) (t.reads r c) row l ks q.pieces y f b s m (o.reads c n row e r h) in
     record { outcome = x.outcome; among_them = x.among_them; run = x.run })
-claim o k (a_token m w) = λ l s. good_token m w
-claim o k (a_word e i) = λ l s. good_word e i
-claim o k (an_operator x) = λ l s. good_operator x
-claim o k ended = λ g l s h. made_end
-claim o k (begun d) = λ g l s h. made_begin (claim o k d g l s h)
-claim o k (closed d) = λ g l s h. made_close (claim o k d g l s h)
-claim {t = t} o k (put {p = p} {is = is} {js = js} d e) = λ g l s h.
-    let m = claim o k e g l s (and_right (followed_piece t p (look t is g)) _ h) in
-    made_piece
-    (claim o k d (js ++ l)
-    (may_follow t p (look t is g) (js ++ l) (and_left (followed_piece t p (look t is g)) _ h) (seen t g m s))) m
-claim {t = t} o k (first_way {a = a} {b = b} {is = is} d) = λ g l s h.
-    made_first (claim o k d g l s (followed_appended t no_ways a is g g (and_left (followed t a (look t is g) g) _ h)
-    (and_right (followed t b (look t is g) g) _ (and_right (followed t a (look t is g) g) _ h))))
-claim {t = t} o k (second_way {a = a} {b = b} {is = is} d) = λ g l s h.
+claim o (a_token m w) = λ l s. good_token m w
+claim o (a_word e i) = λ l s. good_word e i
+claim o (an_operator x) = λ l s. good_operator x
+claim o ended = λ g l s h. record { pieces = []; made = made_end }
+claim o (begun d) = λ g l s h. let m = claim o d g l s h in record { pieces = m.pieces; made = made_begin m.made }
+claim o (closed d) = λ g l s h. let m = claim o d g l s h in record { pieces = m.pieces; made = made_close m.made }
+claim {t = t} o (put {p = p} {is = is} {u = u} {js = js} d e) = λ g l s h.
+    let m = claim o e g l s (and_right (followed_piece t p (look t is g)) _ h) in
+    let q = claim o d (js ++ l)
+    (may_follow t p (look t is g) (js ++ l) (and_left (followed_piece t p (look t is g)) _ h) (seen t g m.made s)) in
+    record { pieces = u ∷ m.pieces; made = made_piece q m.made }
+claim {t = t} o (first_way {a = a} {b = b} {is = is} d) = λ g l s h.
+    let m = claim o d g l s (followed_appended t no_ways a is g g (and_left (followed t a (look t is g) g) _ h)
+    (and_right (followed t b (look t is g) g) _ (and_right (followed t a (look t is g) g) _ h))) in
+    record { pieces = m.pieces; made = made_first m.made }
+claim {t = t} o (second_way {a = a} {b = b} {is = is} d) = λ g l s h.
     let i = and_right (followed t a (look t is g) g) _ h in
-    made_second (claim o k d g l s (followed_appended t no_ways b is g g (and_left (followed t b (look t is g) g) _ i)
-    (and_right (followed t b (look t is g) g) _ i)))
-claim {t = t} o k (last_turn {a = a} {z = z} d) = λ g l s h.
-    made_last (claim o k d g l s (and_right (followed t a (look t a anything ++ look t z g) (look t a anything ++ look t z g)) _ h))
-claim {t = t} o k (one_turn {a = a} {z = z} {js = js} d e) = λ g l s h.
-    let n = claim o k e g l s h in
+    let m = claim o d g l s (followed_appended t no_ways b is g g (and_left (followed t b (look t is g) g) _ i)
+    (and_right (followed t b (look t is g) g) _ i)) in
+    record { pieces = m.pieces; made = made_second m.made }
+claim {t = t} o (last_turn {a = a} {z = z} d) = λ g l s h.
     let r = look t a anything ++ look t z g in
-    made_turn (claim o k d r (js ++ l) (seen t g n s) (and_left (followed t a r r) _ h)) n
-claim {t = t} o k (repeated {a = a} {z = z} {is = is} {js = js} d e) = λ g l s h.
+    let m = claim o d g l s (and_right (followed t a r r) _ h) in
+    record { pieces = []; made = made_last m.made }
+claim {t = t} o (one_turn {a = a} {z = z} {js = js} d e) = λ g l s h.
+    let n = turns_made (claim o e g l s h).made in
+    let r = look t a anything ++ look t z g in
+    let m = claim o d r (js ++ l) (seen t g n s) (and_left (followed t a r r) _ h) in
+    record { pieces = []; made = made_turn m.made n }
+claim {t = t} o (repeated {a = a} {z = z} {is = is} {u = u} {js = js} d e) = λ g l s h.
     let n = look t is g in
     let r = look t a anything ++ look t z n in
     let h2 = and_right (followed t a r r) _ h in
-    let m = claim o k e g l s (and_right (followed t z n n) _ h2) in
-    made_repeat
-    (claim o k d n (js ++ l) (seen t g m s)
-    (and_both (followed t a r r) (followed t z n n) (and_left (followed t a r r) _ h) (and_left (followed t z n n) _ h2))) m
-claim {t = t} o k (grouped {a = a} {is = is} {js = js} d e) = λ g l s h.
+    let m = claim o e g l s (and_right (followed t z n n) _ h2) in
+    let q = claim o d n (js ++ l) (seen t g m.made s)
+    (and_both (followed t a r r) (followed t z n n) (and_left (followed t a r r) _ h) (and_left (followed t z n n) _ h2)) in
+    record { pieces = u ∷ m.pieces; made = made_repeat (turns_made q.made) m.made }
+claim {t = t} o (grouped {a = a} {is = is} {u = u} {js = js} d e) = λ g l s h.
     let n = look t is g in
-    let m = claim o k e g l s (and_right (followed t a n n) _ h) in
-    made_group (claim o k d n (js ++ l) (seen t g m s) (and_left (followed t a n n) _ h)) m
-claim o k folded_none = λ g l s h. made_folded_none
-claim {t = t} o k (folded_more {m = m} {ws = ws} {js = js} w i d e) = λ g l s h.
-    let n = claim o k e g l s h in
-    made_folded_more w i
-    (claim o k d (after_way t ws g m) (js ++ l) (seen t g n s) (way_followed t (after_way t ws g) [] [] w h)) n
-claim {t = t} o k (folded {ws = ws} {is = is} {js = js} d e) = λ g l s h.
+    let m = claim o e g l s (and_right (followed t a n n) _ h) in
+    let q = claim o d n (js ++ l) (seen t g m.made s) (and_left (followed t a n n) _ h) in
+    record { pieces = u ∷ m.pieces; made = made_group q.made m.made }
+claim o folded_none = λ g l s h. record { pieces = []; made = made_folded_none }
+claim {t = t} o (folded_more {m = m} {ws = ws} {js = js} w i d e) = λ g l s h.
+    let n = folding_made (claim o e g l s h).made in
+    let q = claim o d (after_way t ws g m) (js ++ l) (seen t g n s) (way_followed t (after_way t ws g) [] [] w h) in
+    record { pieces = []; made = made_folded_more w i q.made n }
+claim {t = t} o (folded {ws = ws} {is = is} {u = u} {js = js} d e) = λ g l s h.
     let n = look t is g in
     let z = followed_in t (after_way t ws n) ws [] [] in
-    let m = claim o k e g l s (and_right z _ h) in
-    made_folds (claim o k d n (js ++ l) (seen t g m s) (and_left z _ h)) m
-claim o k (guarded {w = w} h d) = λ g l s i.
-    made_guarded (h l (weaker g w l (and_left (says g w) _ i) s)) (claim o k d g l s (and_right (says g w) _ i))
+    let m = claim o e g l s (and_right z _ h) in
+    let q = claim o d n (js ++ l) (seen t g m.made s) (and_left z _ h) in
+    record { pieces = u ∷ m.pieces; made = made_folds (folding_made q.made) m.made }
+claim o (guarded {w = w} h d) = λ g l s i.
+    let m = claim o d g l s (and_right (says g w) _ i) in
+    record { pieces = m.pieces; made = made_guarded (h l (weaker g w l (and_left (says g w) _ i) s)) m.made }

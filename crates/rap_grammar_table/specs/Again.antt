@@ -4,7 +4,7 @@ use Rattle.rap_base.specs.NodeKind.{ASSOC_ITEM_LIST, BLOCK_EXPR, EXTERN_ITEM_LIS
 use Rattle.rap_base.specs.TokenKind.{L_CURLY}
 use Rattle.rap_events.specs.Forest.{Forest, none, node}
 use Rattle.rap_events.specs.Record.{Record, next_kind}
-use Rattle.rap_grammar_core.specs.StandsIn.{StandsIn}
+use Rattle.rap_grammar_ends.specs.StandsIn.{StandsIn}
 use Rattle.rap_grammar_table.specs.Categories.{AssocItems, Block, ExternItems, ItemList, MatchArms, RecordFields, RecordValues, TokenTree, UseTrees, Variants}
 use Rattle.rap_grammar_table.specs.Tops.{Makes, MakesRow, file_row, items_row, stmts_row}
 

@@ -8,7 +8,6 @@ pub mod Fronts
 pub mod GenericRows
 pub mod Good
 pub mod Heads
-pub mod Inclusion
 pub mod ItemRows
 pub mod Known
 pub mod Lasts

@@ -5,7 +5,7 @@ use Rattle.rap_base.specs.TokenKind.{ASYNC_KW, CONST_KW, DEFAULT_KW, FN_KW, SEMI
 use Rattle.rap_events.specs.Forest.{Forest}
 use Rattle.rap_events.specs.Power.{power}
 use Rattle.rap_events.specs.Record.{Record}
-use Rattle.rap_grammar_core.specs.StandsIn.{NodeAt}
+use Rattle.rap_grammar_ends.specs.StandsIn.{NodeAt}
 use Rattle.rap_grammar_table.specs.Again.{IsTableTree}
 use Rattle.rap_grammar_table.specs.Counts.{AreBetween, nodes_of}
 use Rattle.rap_grammar_table.specs.Known.{among}

@@ -1,5 +1,5 @@
 -- A grammar as a table, and what it derives.
-use Rattle.std.specs.Prelude.{◌≡◌, ◌⊎◌, ℕ, zero, suc, Bool, true, false, List, [], ◌∷◌, ◌++◌, Option, Some, None}
+use Rattle.std.specs.Prelude.{◌≡◌, ℕ, zero, suc, Bool, true, false, List, [], ◌∷◌, ◌++◌, Option, Some, None}
 use Rattle.rap_base.specs.TokenKind.{IDENT}
 use Rattle.rap_events.specs.Composite.{parts, width}
 use Rattle.rap_events.specs.Forest.{Forest, none, node, leaf, ◌⧺◌}
@@ -76,10 +76,10 @@ pub data HasWay : Items → List ℕ → Items → ℕ → Type 0 where
   other_turn : {is js : List ℕ} {m n : ℕ} {a b ws : Items} → HasWay ws js a m → HasWay (way is b n ws) js a m
 
 -- What is derived: a piece; or the rest of a row, after this forest in the newest open node and these in the older
--- ones, whose pieces have these trees.
+-- ones.
 pub data Goal : Type 0 where
   one : Piece → Goal
-  rest_of : Items → Forest → List Forest → List Forest → Goal
+  rest_of : Items → Forest → List Forest → Goal
 
 -- tokens of these kinds, each but the last touching the next one
 pub data Touching : List ℕ → List Record → Type 0 where
@@ -87,66 +87,48 @@ pub data Touching : List ℕ → List Record → Type 0 where
   next_part : {k j : ℕ} {ks : List ℕ} {r : Record} {rs : List Record} → r.kind ≡ k → r.joint ≡ true →
       Touching (j ∷ ks) rs → Touching (k ∷ j ∷ ks) (r ∷ rs)
 
--- a category's tokens and their tree
-pub record Part : Type 0 where
-  pub category : ℕ
-  pub tokens : List Record
-  pub tree_is : Forest
-
-abbrev pub Among : Part → List Part → Type 0
-Among p [] = ⊥
-Among p (q ∷ qs) = (p ≡ q) ⊎ Among p qs
-
--- What is derived beside the table: a category's tokens and their tree, from those of its parts.
-abbrev pub Beside : Type 1
-Beside = ℕ → List Part → List Record → Forest → Type 0
-
--- the tokens of a piece, or of the rest of a row, and its tree; of some categories some are given beside the table
-pub data Derives (t : Table) (given : Beside) :
-    Goal → List Record → Forest → Type 0 where
-  beside : {c : ℕ} {ps : List Part} {ks : List Record} {x : Forest} → given c ps ks x →
-      ((p : Part) → Among p ps → Derives t given (one (cat p.category)) p.tokens p.tree_is) →
-      Derives t given (one (cat c)) ks x
-  by_row : {c : ℕ} {row : Items} {ks : List Record} {x : Forest} {us : List Forest} (n : ℕ) →
-      row_at n (t.rows c) ≡ Some row → Derives t given (rest_of row none [] us) ks x → Derives t given (one (cat c)) ks x
+-- the tokens of a piece, or of the rest of a row, and its tree
+pub data Derives (t : Table) : Goal → List Record → Forest → Type 0 where
+  by_row : {c : ℕ} {row : Items} {ks : List Record} {x : Forest} (n : ℕ) →
+      row_at n (t.rows c) ≡ Some row → Derives t (rest_of row none []) ks x → Derives t (one (cat c)) ks x
   a_token : {kinds : List ℕ} {words : Option (List ℕ)} {r : Record} → among kinds r.kind ≡ true →
-      within words r.contextual ≡ true → Derives t given (one (tok kinds words)) (r ∷ []) (leaf none r.kind 1)
+      within words r.contextual ≡ true → Derives t (one (tok kinds words)) (r ∷ []) (leaf none r.kind 1)
   a_word : {k : ℕ} {r : Record} → r.kind ≡ IDENT → r.contextual ≡ k →
-      Derives t given (one (word k)) (r ∷ []) (leaf none k 1)
+      Derives t (one (word k)) (r ∷ []) (leaf none k 1)
   an_operator : {k : ℕ} {rs : List Record} → Touching (parts k) rs →
-      Derives t given (one (comp k)) rs (leaf none k (width k))
-  ended : {x : Forest} → Derives t given (rest_of nil x [] []) [] x
-  begun : {is : Items} {x y : Forest} {xs us : List Forest} {ks : List Record} →
-      Derives t given (rest_of is none (x ∷ xs) us) ks y → Derives t given (rest_of (begin is) x xs us) ks y
-  closed : {k : ℕ} {is : Items} {x y z : Forest} {xs us : List Forest} {ks : List Record} →
-      Derives t given (rest_of is (node z k x) xs us) ks y → Derives t given (rest_of (close k is) x (z ∷ xs) us) ks y
-  put : {p : Piece} {is : Items} {x y u : Forest} {xs us : List Forest} {ks js : List Record} →
-      Derives t given (one p) ks u → Derives t given (rest_of is (x ⧺ u) xs us) js y →
-      Derives t given (rest_of (piece p is) x xs (u ∷ us)) (ks ++ js) y
-  first_way : {a b is : Items} {x y : Forest} {xs us : List Forest} {ks : List Record} →
-      Derives t given (rest_of (appended a is) x xs us) ks y → Derives t given (rest_of (choice a b is) x xs us) ks y
-  second_way : {a b is : Items} {x y : Forest} {xs us : List Forest} {ks : List Record} →
-      Derives t given (rest_of (appended b is) x xs us) ks y → Derives t given (rest_of (choice a b is) x xs us) ks y
-  last_turn : {a z : Items} {x : Forest} {us : List Forest} {ks : List Record} →
-      Derives t given (rest_of z none [] us) ks x → Derives t given (rest_of (turns_of a z) none [] []) ks x
-  one_turn : {a z : Items} {x y : Forest} {us : List Forest} {ks js : List Record} →
-      Derives t given (rest_of a none [] us) ks x → Derives t given (rest_of (turns_of a z) none [] []) js y →
-      Derives t given (rest_of (turns_of a z) none [] []) (ks ++ js) (x ⧺ y)
-  repeated : {a z is : Items} {x y u : Forest} {xs us : List Forest} {ks js : List Record} →
-      Derives t given (rest_of (turns_of a z) none [] []) ks u → Derives t given (rest_of is (x ⧺ u) xs us) js y →
-      Derives t given (rest_of (repeat a z is) x xs (u ∷ us)) (ks ++ js) y
-  grouped : {a is : Items} {x y u : Forest} {xs us vs : List Forest} {ks js : List Record} →
-      Derives t given (rest_of a none [] vs) ks u → Derives t given (rest_of is (x ⧺ u) xs us) js y →
-      Derives t given (rest_of (group a is) x xs (u ∷ us)) (ks ++ js) y
-  folded_none : {n : ℕ} {ws : Items} {x : Forest} → Derives t given (rest_of (folding n ws) x [] []) [] x
-  folded_more : {is : List ℕ} {n m k : ℕ} {ws a : Items} {x c u : Forest} {vs : List Forest} {ks js : List Record} →
-      HasWay ws is a m → among is n ≡ true → Derives t given (rest_of a x (none ∷ []) vs) ks (node none k c) →
-      Derives t given (rest_of (folding m ws) (node none k c) [] []) js u →
-      Derives t given (rest_of (folding n ws) x [] []) (ks ++ js) u
-  folded : {n j : ℕ} {ws is : Items} {c x y u : Forest} {xs us : List Forest} {ks js : List Record} →
-      Derives t given (rest_of (folding n ws) (node none j c) [] []) ks u →
-      Derives t given (rest_of is (x ⧺ u) xs us) js y →
-      Derives t given (rest_of (folds n ws is) (node x j c) xs (u ∷ us)) (ks ++ js) y
-  guarded : {h : Test} {w : List (List Place)} {is : Items} {ks : List Record} {x y : Forest} {xs us : List Forest} →
-      ((l : List Record) → Sees w l → holds h (ks ++ l) ≡ false) → Derives t given (rest_of is x xs us) ks y →
-      Derives t given (rest_of (unless h w is) x xs us) ks y
+      Derives t (one (comp k)) rs (leaf none k (width k))
+  ended : {x : Forest} → Derives t (rest_of nil x []) [] x
+  begun : {is : Items} {x y : Forest} {xs : List Forest} {ks : List Record} →
+      Derives t (rest_of is none (x ∷ xs)) ks y → Derives t (rest_of (begin is) x xs) ks y
+  closed : {k : ℕ} {is : Items} {x y z : Forest} {xs : List Forest} {ks : List Record} →
+      Derives t (rest_of is (node z k x) xs) ks y → Derives t (rest_of (close k is) x (z ∷ xs)) ks y
+  put : {p : Piece} {is : Items} {x y u : Forest} {xs : List Forest} {ks js : List Record} →
+      Derives t (one p) ks u → Derives t (rest_of is (x ⧺ u) xs) js y →
+      Derives t (rest_of (piece p is) x xs) (ks ++ js) y
+  first_way : {a b is : Items} {x y : Forest} {xs : List Forest} {ks : List Record} →
+      Derives t (rest_of (appended a is) x xs) ks y → Derives t (rest_of (choice a b is) x xs) ks y
+  second_way : {a b is : Items} {x y : Forest} {xs : List Forest} {ks : List Record} →
+      Derives t (rest_of (appended b is) x xs) ks y → Derives t (rest_of (choice a b is) x xs) ks y
+  last_turn : {a z : Items} {x : Forest} {ks : List Record} →
+      Derives t (rest_of z none []) ks x → Derives t (rest_of (turns_of a z) none []) ks x
+  one_turn : {a z : Items} {x y : Forest} {ks js : List Record} →
+      Derives t (rest_of a none []) ks x → Derives t (rest_of (turns_of a z) none []) js y →
+      Derives t (rest_of (turns_of a z) none []) (ks ++ js) (x ⧺ y)
+  repeated : {a z is : Items} {x y u : Forest} {xs : List Forest} {ks js : List Record} →
+      Derives t (rest_of (turns_of a z) none []) ks u → Derives t (rest_of is (x ⧺ u) xs) js y →
+      Derives t (rest_of (repeat a z is) x xs) (ks ++ js) y
+  grouped : {a is : Items} {x y u : Forest} {xs : List Forest} {ks js : List Record} →
+      Derives t (rest_of a none []) ks u → Derives t (rest_of is (x ⧺ u) xs) js y →
+      Derives t (rest_of (group a is) x xs) (ks ++ js) y
+  folded_none : {n : ℕ} {ws : Items} {x : Forest} → Derives t (rest_of (folding n ws) x []) [] x
+  folded_more : {is : List ℕ} {n m k : ℕ} {ws a : Items} {x c u : Forest} {ks js : List Record} →
+      HasWay ws is a m → among is n ≡ true → Derives t (rest_of a x (none ∷ [])) ks (node none k c) →
+      Derives t (rest_of (folding m ws) (node none k c) []) js u →
+      Derives t (rest_of (folding n ws) x []) (ks ++ js) u
+  folded : {n j : ℕ} {ws is : Items} {c x y u : Forest} {xs : List Forest} {ks js : List Record} →
+      Derives t (rest_of (folding n ws) (node none j c) []) ks u →
+      Derives t (rest_of is (x ⧺ u) xs) js y →
+      Derives t (rest_of (folds n ws is) (node x j c) xs) (ks ++ js) y
+  guarded : {h : Test} {w : List (List Place)} {is : Items} {ks : List Record} {x y : Forest} {xs : List Forest} →
+      ((l : List Record) → Sees w l → holds h (ks ++ l) ≡ false) → Derives t (rest_of is x xs) ks y →
+      Derives t (rest_of (unless h w is) x xs) ks y

@@ -7,20 +7,15 @@ use Rattle.rap_grammar_table.specs.Categories.{BlockStmt, EmptyStmt, Item, Macro
 use Rattle.rap_grammar_table.specs.Known.{Place}
 use Rattle.rap_grammar_table.specs.Notation.{◌⊳◌, t, c, either, opt, many, until, row, of_kinds}
 use Rattle.rap_grammar_table.specs.Rows.{table}
-use Rattle.rap_grammar_table.specs.Table.{Items, Beside, Derives, one, rest_of, cat}
-
--- nothing is given beside the table
-abbrev pub nothing_given : Beside
-nothing_given category parts tokens tree = ⊥
+use Rattle.rap_grammar_table.specs.Table.{Items, Derives, one, rest_of, cat}
 
 -- a category's tokens, and their tree
 abbrev pub Makes : ℕ → List Record → Forest → Type 0
-Makes category tokens tree = Derives table nothing_given (one (cat category)) tokens tree
+Makes category tokens tree = Derives table (one (cat category)) tokens tree
 
 -- the tokens of a row that stands alone, and the forest of its trees
-pub record MakesRow (is : Items) (tokens : List Record) (forest : Forest) : Type 0 where
-  pub pieces : List Forest
-  pub derives : Derives table nothing_given (rest_of is none [] pieces) tokens forest
+abbrev pub MakesRow : Items → List Record → Forest → Type 0
+MakesRow is tokens forest = Derives table (rest_of is none []) tokens forest
 
 -- Items, behind attributes of what they stand in: so a macro may expand. In a file a shebang and frontmatter may stand
 -- before them.

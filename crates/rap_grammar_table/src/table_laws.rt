@@ -1,7 +1,6 @@
 //! Laws of what the table derives. Each is a function that does nothing and whose contract is the law.
 ghost use Rattle.rap_grammar_table.specs.Again.{MakesItsNodes};
 ghost use Rattle.rap_grammar_table.specs.Categories.{AnchoredPath, AssocItems, Block, Expr, ExternItems, FrontStmt, GlobalPath, Item, ItemList, LastStmt, MatchArms, Meta, Path, Pattern, RecordFields, RecordValues, SinglePattern, TokenTree, Ty, UseTrees, Variants, Visibility};
-ghost use Rattle.rap_grammar_table.specs.Inclusion.{FollowsExpression, FollowsOther, FollowsType, HoldsBlock, HoldsBrackets, HoldsCall, HoldsContents, HoldsExpression, HoldsFieldList, HoldsFile, HoldsItem, HoldsItemList, HoldsItems, HoldsNodes, HoldsStatements, HoldsType};
 ghost use Rattle.rap_grammar_table.specs.Laws.{HasOneForest, HasOneTree};
 ghost use Rattle.rap_grammar_table.specs.Tops.{file_row, items_row, stmts_row};
 
@@ -39,29 +38,4 @@ pub fn one_tree_each()
 /// something that the table derives.
 pub fn nodes_are_made_again()
     ensures { MakesItsNodes }
-{}
-
-/// What the relation of the core grammar derives is derived by the table too, with the same tree: a file, any number of
-/// items, an item, items and the fields of a struct in braces, a block, its statements in their braces, what stands
-/// there, an expression, and a type. What the relation lets follow a type or an expression may follow it by the table
-/// too, and so may each token of an input that is not of the kind that a category excludes. Of an input's tokens
-/// balanced ones in brackets are a token tree of the table, and a macro call is one of its items. A node of the
-/// relation's trees, or of a macro call, that is parsed again alone is by its own tokens a node of the table.
-pub fn holds_in_table()
-    ensures file { HoldsFile }
-    ensures items { HoldsItems }
-    ensures item { HoldsItem }
-    ensures item_list { HoldsItemList }
-    ensures field_list { HoldsFieldList }
-    ensures block { HoldsBlock }
-    ensures statements { HoldsStatements }
-    ensures contents { HoldsContents }
-    ensures expression { HoldsExpression }
-    ensures type_ { HoldsType }
-    ensures after_type { FollowsType }
-    ensures after_expression { FollowsExpression }
-    ensures after_other { FollowsOther }
-    ensures brackets { HoldsBrackets }
-    ensures call { HoldsCall }
-    ensures nodes { HoldsNodes }
 {}

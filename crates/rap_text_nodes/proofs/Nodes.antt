@@ -4,7 +4,7 @@ use Rattle.std.specs.List.{after_first, before_first}
 use Rattle.rap_base.specs.NodeKind.{NAME_REF}
 use Rattle.rap_base.specs.TokenKind.{DOT, ERROR, FLOAT_NUMBER, INT_NUMBER}
 use Rattle.rap_events.specs.Forest.{Forest, none, node, leaf, message, split}
-use Rattle.rap_grammar_core.specs.StandsIn.{NodeAt, last_node as node_last, in_last_node as node_inside, before_node as node_before, before_leaf as leaf_before, before_message as message_before, before_split as split_before}
+use Rattle.rap_grammar_ends.specs.StandsIn.{NodeAt, last_node as node_last, in_last_node as node_inside, before_node as node_before, before_leaf as leaf_before, before_message as message_before, before_split as split_before}
 use Rattle.rap_grammar_shapes.specs.HaveShapes.{HaveShapesWithin}
 use Rattle.rap_grammar_shapes.specs.Whole.{IsWhole}
 use Rattle.rap_grammar_table.specs.Shapes.{leaf_child, children_of}

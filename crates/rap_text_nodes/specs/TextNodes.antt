@@ -6,7 +6,7 @@ use Rattle.rap_base.specs.TokenTests.{is_trivia}
 use Rattle.rap_base.specs.declared.edition.Edition.{Edition}
 use Rattle.rap_events.specs.Cover.{covers}
 use Rattle.rap_events.specs.Forest.{Forest, none, node}
-use Rattle.rap_grammar_core.specs.StandsIn.{NodeAt}
+use Rattle.rap_grammar_ends.specs.StandsIn.{NodeAt}
 use Rattle.rap_grammar_shapes.specs.HaveShapes.{HaveShapesWithin}
 use Rattle.rap_grammar_shapes.specs.Shapes.{shape_of}
 use Rattle.rap_grammar_shapes.specs.Spelled.{spelled_children}

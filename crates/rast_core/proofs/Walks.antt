@@ -7,7 +7,7 @@ use Rattle.rap_events.specs.StepValue.{StepValue, enter, exit, token, float_spli
 use Rattle.rap_events.specs.Forest.{Forest, none, node, leaf, message, split, ◌⧺◌, used, flat, exit_of, split_ends, splits_placed, ended_by}
 use Rattle.rap_events.specs.Reading.{Begun, nothing, inside, read, with_ends, exits}
 use Rattle.rap_events.proofs.StepLemmas.{forest_of-flat}
-use Rattle.rap_grammar_core.specs.StandsIn.{NodeAt, last_node, in_last_node, before_node, before_leaf, before_message, before_split}
+use Rattle.rap_grammar_ends.specs.StandsIn.{NodeAt, last_node, in_last_node, before_node, before_leaf, before_message, before_split}
 use Rattle.rast_core.specs.Nodes.{IsNode}
 use Rattle.rast_core.specs.Walked.{widths_of, finished, open_nodes, IsAt}
 use Rattle.rast_core.specs.declared.nodes.OpenNode.{OpenNode}

@@ -3,7 +3,7 @@ use Rattle.std.specs.Prelude.{◌≡◌, ◌<◌, ℕ, zero, suc, ◌+◌, List,
 use Rattle.std.specs.Fmt.{decimal}
 use Rattle.rap_base.specs.Names.{name_of}
 use Rattle.rap_events.specs.Forest.{Forest, used}
-use Rattle.rap_grammar_core.specs.StandsIn.{NodeAt}
+use Rattle.rap_grammar_ends.specs.StandsIn.{NodeAt}
 use Rattle.rap_lexed.specs.LexedStr.{Lexed, Message, start_of, token_at}
 use Rattle.rap_lexed.specs.Token.{Token}
 use Rattle.rap_lexed.specs.Trivia.{is_trivial}

@@ -1,7 +1,7 @@
 -- Nodes of a tree.
 use Rattle.std.specs.Prelude.{◌≡◌, ◌+◌}
 use Rattle.rap_events.specs.Forest.{Forest, used}
-use Rattle.rap_grammar_core.specs.StandsIn.{NodeAt}
+use Rattle.rap_grammar_ends.specs.StandsIn.{NodeAt}
 use Rattle.rap_grammar_rows.specs.declared.search.outside.Outside.{Outside}
 
 -- A node of a tree: it has this kind, and so many tokens stand before it and before its end.

@@ -1,5 +1,5 @@
 use Rattle.ra_ap_parser.proofs.EntryShapes.{entry_shapes}
-use Rattle.ra_ap_parser.proofs.EntryTrees.{core_tree, call_tree, front_kept, one_entry_output, prefix_wrapped}
+use Rattle.ra_ap_parser.proofs.EntryTrees.{core_tree, front_kept, one_entry_output, prefix_wrapped}
 use Rattle.ra_ap_parser.proofs.entry_point.TopEntryPoint.parse.Goals as goal
 
 pub returns-in-Ok-clause-only : goal.returns-in-Ok-clause-only
@@ -10,9 +10,6 @@ returns-in-Ok-clause-shapes c = entry_shapes c.args.self.now _ _ c.has_too_many_
 
 pub returns-in-Ok-clause-core : goal.returns-in-Ok-clause-core
 returns-in-Ok-clause-core c = λ tree d. core_tree c.args.self.now _ c.in-Ok.ensures.script d
-
-pub returns-in-Ok-clause-macro_call : goal.returns-in-Ok-clause-macro_call
-returns-in-Ok-clause-macro_call c = λ tree d. call_tree c.args.self.now _ c.has_too_many_tokens.ensures.tokens c.in-Ok.ensures.script d
 
 pub returns-in-Ok-clause-front : goal.returns-in-Ok-clause-front
 returns-in-Ok-clause-front c = front_kept c.args.self.now _ _ c.in-Ok.ensures.script

@@ -1,0 +1,14 @@
+pub mod Adds
+pub mod AllRules
+pub mod Differ
+pub mod DotEnds
+pub mod DotFits
+pub mod DotKeeps
+pub mod DotRules
+pub mod DotsInNodes
+pub mod Endings
+pub mod Ends
+pub mod Keeps
+pub mod Recovery
+pub mod Standing
+pub mod Ways

@@ -1,0 +1,16 @@
+pub mod Begins
+pub mod Example
+pub mod InTable
+pub mod Included
+pub mod IncludedBrackets
+pub mod IncludedExpressions
+pub mod IncludedItems
+pub mod IncludedLists
+pub mod IncludedOperands
+pub mod IncludedOperators
+pub mod IncludedRows
+pub mod IncludedStatements
+pub mod IncludedTurns
+pub mod IncludedTypes
+pub mod Larger
+pub mod Operators
