@@ -8,7 +8,7 @@ use Rattle.rap_base.specs.TokenTests.{is_trivia}
 use Rattle.rap_events.specs.Forest.{Forest}
 use Rattle.rap_events.proofs.Truth.{and_both, and_left, and_right}
 use Rattle.rap_grammar_table.specs.Shapes.{node_child}
-use Rattle.rap_grammar_table.proofs.Look.{same_self}
+use Rattle.rap_grammar_table.proofs.LookLaws.{same_self}
 use Rattle.rap_lexed.specs.StrForest.{StrForest, str_none, str_node, str_leaf, str_message, str_flat, str_joined}
 use Rattle.rap_lexed.specs.Token.{Token}
 use Rattle.rap_lexed.specs.Trivia.{with_trivia}

@@ -6,9 +6,14 @@ use Rattle.rap_events.specs.Record.{Record, next_kind}
 use Rattle.rap_events.specs.Forest.{Forest, none, node, ◌⧺◌, used}
 use Rattle.rap_grammar_scripts.specs.ThroughKnot.{expr, pattern, pattern_single, type_, meta}
 use Rattle.rap_grammar_ends.specs.Mixed.{IsFront}
+use Rattle.rap_grammar_table.specs.AttributeRows.{meta_follows}
 use Rattle.rap_grammar_table.specs.Categories as table
-use Rattle.rap_grammar_table.specs.Fronts.{MakesFront}
+use Rattle.rap_grammar_table.specs.Categories.{plus_follows, type_follows}
+use Rattle.rap_grammar_table.specs.Fronts.{MakesBefore}
 use Rattle.rap_grammar_table.specs.Heads.{file_head, items_head}
+use Rattle.rap_grammar_table.specs.Operators.{expr_ends}
+use Rattle.rap_grammar_table.specs.PatternRows.{pattern_follows, single_follows}
+use Rattle.rap_grammar_table.specs.StmtRows.{front_stmt_follows, last_stmt_follows}
 use Rattle.rap_grammar_table.specs.Table.{Items}
 use Rattle.rap_grammar_table.specs.Tops.{Makes, MakesRow, file_row, items_row, stmts_row}
 use Rattle.rap_grammar.specs.CoreItems.{IsItem}
@@ -102,20 +107,22 @@ WrapsPrefix entry.Ty input output = IsTopOfPrefix prefix.Ty input output
 WrapsPrefix entry.Expr input output = IsTopOfPrefix prefix.Expr input output
 WrapsPrefix entry.MetaItem input output = IsTopOfPrefix prefix.MetaItem input output
 
--- The front of an input is derived by the table of the core grammar, with this tree, before what can follow it. That is
--- what the table says of the category; but an item stands before any token but a semicolon, a visibility before any but a
--- parenthesis, and a block before anything.
+-- The front of an input is derived by the table of the core grammar, with this tree, before what can follow it: an item
+-- before any token but a semicolon, a visibility before any but a parenthesis, a block before anything, and the others
+-- before tokens that go on in one of some ways.
 abbrev pub IsPrefixCore : PrefixEntryPoint → List Record → List Record → Forest → Type 0
 IsPrefixCore prefix.Vis front rest tree = Makes table.Visibility front tree × (next_kind rest ≢ L_PAREN)
 IsPrefixCore prefix.Block front rest tree = Makes table.Block front tree
 IsPrefixCore prefix.Stmt front rest tree =
-    MakesFront table.FrontStmt front rest tree ⊎ MakesFront table.LastStmt front rest tree
-IsPrefixCore prefix.Pat front rest tree = MakesFront table.SinglePattern front rest tree
-IsPrefixCore prefix.PatTop front rest tree = MakesFront table.Pattern front rest tree
-IsPrefixCore prefix.Ty front rest tree = MakesFront table.Ty front rest tree
-IsPrefixCore prefix.Expr front rest tree = MakesFront table.Expr front rest tree
+    MakesBefore front_stmt_follows table.FrontStmt front rest tree ⊎
+    MakesBefore last_stmt_follows table.LastStmt front rest tree
+IsPrefixCore prefix.Pat front rest tree = MakesBefore single_follows table.SinglePattern front rest tree
+IsPrefixCore prefix.PatTop front rest tree = MakesBefore pattern_follows table.Pattern front rest tree
+IsPrefixCore prefix.Ty front rest tree = MakesBefore type_follows table.Ty front rest tree
+IsPrefixCore prefix.Expr front rest tree = MakesBefore (expr_ends false) table.Expr front rest tree
 IsPrefixCore prefix.Path front rest tree =
-    MakesFront table.Path front rest tree ⊎
-    (MakesFront table.GlobalPath front rest tree ⊎ MakesFront table.AnchoredPath front rest tree)
+    MakesBefore type_follows table.Path front rest tree ⊎
+    (MakesBefore plus_follows table.GlobalPath front rest tree ⊎
+    MakesBefore plus_follows table.AnchoredPath front rest tree)
 IsPrefixCore prefix.Item front rest tree = Makes table.Item front tree × (next_kind rest ≢ SEMICOLON)
-IsPrefixCore prefix.MetaItem front rest tree = MakesFront table.Meta front rest tree
+IsPrefixCore prefix.MetaItem front rest tree = MakesBefore meta_follows table.Meta front rest tree

@@ -13,7 +13,7 @@ use Rattle.rap_grammar_table.specs.Known.{among, every_one}
 use Rattle.rap_grammar_table.specs.Shapes.{Child, leaf_child, node_child, message_child, float_child, Shape, nothing, leaf_of, any_leaf, node_of, a_float, ◌⋅◌, ◌or◌, any_of, Spells, no_child, a_leaf, some_leaf, a_node, the_float, in_order, by_first, by_second, no_more, one_more}
 use Rattle.rap_grammar_table.proofs.Counts.{counted}
 use Rattle.rap_grammar_table.proofs.Known.{by_or, every_so, same_number}
-use Rattle.rap_grammar_table.proofs.Look.{same_self}
+use Rattle.rap_grammar_table.proofs.LookLaws.{same_self}
 
 -- Nodes of some kinds are counted as those of one kind: all of these are called 0, and all others 1.
 abbrev number : Bool → ℕ

@@ -9,6 +9,7 @@ use Rattle.rap_fields.specs.FieldNames.{YIELD_TOKEN, names, numbered}
 use Rattle.rap_fields.specs.Rule.{Look, Row, look_of, of_field}
 use Rattle.rap_fields.specs.RuleOf.{name_of}
 use Rattle.rap_fields.specs.declared.rule.Step.{Step}
+use Rattle.rap_grammar_table.proofs.Table.{table}
 use Rattle.rap_grammar_table.specs.Known.{among}
 
 pub unequal : {a b : ℕ} → a ≢ b → (a == b) ≡ false

@@ -11,9 +11,8 @@ use Rattle.rap_grammar_ends.specs.Mixed.{IsStray}
 use Rattle.rap_grammar_table.specs.Categories as category
 use Rattle.rap_grammar_table.specs.Fronts.{any_but}
 use Rattle.rap_grammar_table.specs.Known.{Sees}
-use Rattle.rap_grammar_table.specs.Narrow.{those}
-use Rattle.rap_grammar_table.specs.Notation.{up_to}
-use Rattle.rap_grammar_table.specs.Rows.{table}
+use Rattle.rap_grammar_table.specs.Notation.{those, up_to}
+use Rattle.rap_grammar_table.proofs.Table.{table}
 use Rattle.rap_grammar_table.proofs.ByKind.{sees_one_of}
 use Rattle.rap_grammar_table.proofs.Fronts.{item_adds, item_seen}
 use Rattle.rap_grammar_table.proofs.Known.{never_so, weaker}

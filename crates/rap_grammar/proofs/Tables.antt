@@ -11,7 +11,7 @@ use Rattle.rap_grammar_scripts.specs.declared.rule.Rule.{Rule}
 use Rattle.rap_grammar_scripts.proofs.OneEnd.{one_end}
 use Rattle.rap_grammar_ends.specs.Dots.{dots_inside}
 use Rattle.rap_grammar_table.specs.Categories.{Expr, Meta, Pattern, Ty}
-use Rattle.rap_grammar_table.specs.Good.{IsNode}
+use Rattle.rap_grammar_table.proofs.Good.{IsNode}
 use Rattle.rap_grammar_table.specs.Tops.{Makes, MakesRow, file_row, items_row, stmts_row}
 use Rattle.rap_grammar_table.proofs.Fronts.{category_clean, row_clean}
 use Rattle.rap_grammar_table.proofs.Tops.{MakesAll, expr_is_node, expr_made, file_made, items_made, meta_is_node, meta_made, pattern_is_node, pattern_made, stmts_made, type_is_node, type_made}

@@ -3,8 +3,8 @@ use Rattle.std.proofs.Common.{◌≡◌, List, [], ◌∷◌, refl}
 use Rattle.rap_grammar_rows.specs.Code.{forms, firsts, seconds, nexts, row_places, sets, turns}
 use Rattle.rap_grammar_rows.specs.Decode.{item_at, parts_of}
 use Rattle.rap_grammar_rows.specs.Rows.{all_parts, rows_in}
-use Rattle.rap_grammar_table.specs.Notation.{Entry}
-use Rattle.rap_grammar_table.specs.Rows.{entries}
+use Rattle.rap_grammar_table.proofs.Entry.{Entry}
+use Rattle.rap_grammar_table.proofs.Table.{entries}
 use Rattle.rap_grammar_table.specs.Table.{Items}
 use Rattle.rap_grammar_table.specs.Tops.{file_row}
 

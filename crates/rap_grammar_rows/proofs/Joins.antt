@@ -16,9 +16,10 @@ use Rattle.rap_grammar_rows.specs.declared.shape.Outcome.{Outcome}
 use Rattle.rap_grammar_rows.specs.declared.shape.Outcome.TheVariants as outcome
 use Rattle.rap_grammar_rows.specs.declared.shape.Shape.{Shape}
 use Rattle.rap_grammar_rows.specs.declared.shape.Shape.TheVariants.{OneNode}
+use Rattle.rap_grammar_table.specs.Rows.{grammar}
 use Rattle.rap_grammar_table.specs.Known.{among}
-use Rattle.rap_grammar_table.specs.Notation.{Entry, entry_at}
-use Rattle.rap_grammar_table.specs.Rows.{entries, table}
+use Rattle.rap_grammar_table.proofs.Entry.{Entry, entry_at}
+use Rattle.rap_grammar_table.proofs.Table.{entries}
 use Rattle.rap_grammar_table.specs.Table.{Items, HasWay, first_turn, other_turn, Derives, rest_of, cat, row_at, by_row, last_turn, one_turn, folded_none, folded_more}
 use Rattle.rap_grammar_table.specs.Tops.{MakesRow, file_row}
 
@@ -41,7 +42,7 @@ places_rows n is [] = refl
 places_rows zero is (ps ∷ pss) = refl
 places_rows (suc n) is (ps ∷ pss) = places_rows n is pss
 
-rows_is : (c : ℕ) → table.rows c ≡ items_in all_parts (set_in c row_places)
+rows_is : (c : ℕ) → grammar c ≡ items_in all_parts (set_in c row_places)
 rows_is c = entry_rows c entries ∙ (ap (rows_at c) (sym content) ∙ places_rows c all_parts row_places)
 
 row_in : (n : ℕ) (is : List Items) (ps : List ℕ) → n < length ps →
@@ -51,13 +52,13 @@ row_in zero is (p ∷ ps) h = refl
 row_in (suc n) is (p ∷ ps) h = row_in n is ps (omega arith)
 
 pub row_there : (c n place : ℕ) (ps : List ℕ) → ps ≡ set_in c row_places → n < length ps → place ≡ get_or ps n 0 →
-    row_at n (table.rows c) ≡ Some (at_place place)
+    row_at n (grammar c) ≡ Some (at_place place)
 row_there c n place ps e h i =
     ap (row_at n) (rows_is c ∙ ap (items_in all_parts) (sym e)) ∙
     (row_in n all_parts ps h ∙ ap (λ (k : ℕ). Some (at_place k)) (sym i))
 
 -- a category by a row
-pub category_fact : (tokens : List Record) (c n p a b : ℕ) (o : Shape) → row_at n (table.rows c) ≡ Some (at_place p) →
+pub category_fact : (tokens : List Record) (c n p a b : ℕ) (o : Shape) → row_at n (grammar c) ≡ Some (at_place p) →
     From tokens b o (row_point p a) → IsPiece tokens (cat c) a b o
 category_fact tokens c n p a b o e f =
     let m : Rest (at_place p) none [] f.part o = f.good none [] refl tt in
@@ -95,8 +96,8 @@ one_more : (js : List ℕ) (n m k : ℕ) (ws a : Items) (c : Forest) (ks ls : Li
     Folded n ws (ks ++ ls) k c
 one_more js n m k ws a c ks ls w h r f =
     let i : Folded m ws ls r.fits.0 r.fits.1 = f r.fits.0 r.fits.1 in
-    let d : Derives table (rest_of a (node none k c) (none ∷ [])) ks (node none r.fits.0 r.fits.1) =
-    subst (λ (x : Forest). Derives table (rest_of a (node none k c) (none ∷ [])) ks x) r.fits.2
+    let d : Derives grammar (rest_of a (node none k c) (none ∷ [])) ks (node none r.fits.0 r.fits.1) =
+    subst (λ (x : Forest). Derives grammar (rest_of a (node none k c) (none ∷ [])) ks x) r.fits.2
     r.derives in
     record { tree = i.tree; derives = folded_more w h d i.derives; is_node = i.is_node }
 
@@ -128,11 +129,11 @@ file_from : (tokens : List Record) (b : ℕ) (o : Shape) → From tokens b o (ro
 file_from tokens b o f h =
     let m : Rest (at_place 0) none [] f.part o = f.good none [] refl tt in
     let w : tokens ≡ f.part = whole tokens f.part b h f.is_part in
-    let d : Derives table (rest_of file_row none []) f.part m.tree =
-    subst (λ (is : Items). Derives table (rest_of is none []) f.part m.tree) file_content
+    let d : Derives grammar (rest_of file_row none []) f.part m.tree =
+    subst (λ (is : Items). Derives grammar (rest_of is none []) f.part m.tree) file_content
     m.derives in
-    let g : Derives table (rest_of file_row none []) tokens m.tree =
-    subst (λ (ks : List Record). Derives table (rest_of file_row none []) ks m.tree) (sym w) d in
+    let g : Derives grammar (rest_of file_row none []) tokens m.tree =
+    subst (λ (ks : List Record). Derives grammar (rest_of file_row none []) ks m.tree) (sym w) d in
     (m.tree, g)
 
 pub file_fact : (tokens : List Record) (p a b : ℕ) (o : Shape) → From tokens b o (row_point p a) → p ≡ 0 → a ≡ 0 →

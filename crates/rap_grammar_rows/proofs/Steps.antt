@@ -6,8 +6,8 @@ use Rattle.rap_grammar_rows.specs.Claims.{IsNode, LastIsNode, Fits, joined, clos
 use Rattle.rap_grammar_rows.specs.declared.shape.Shape.{Shape}
 use Rattle.rap_grammar_rows.specs.declared.shape.Shape.TheVariants.{Empty, OneNode, EndsInNode, Any}
 use Rattle.rap_grammar_scripts.specs.Test.{Test, holds}
+use Rattle.rap_grammar_table.specs.Rows.{grammar}
 use Rattle.rap_grammar_table.specs.Known.{Place, Sees}
-use Rattle.rap_grammar_table.specs.Rows.{table}
 use Rattle.rap_grammar_table.specs.Table.{Piece, Items, nil, begin, close, piece, choice, repeat, turns_of, group, folds, unless, appended, Derives, one, rest_of, ended, begun, closed as node_closed, put, first_way, second_way, repeated, grouped, folded, guarded}
 
 -- shapes
@@ -65,7 +65,7 @@ close_good (Some b) j is s z ss ks o g x (y ∷ ys) h hs =
     record { tree = m.tree; derives = node_closed m.derives; fits = m.fits }
 
 pub piece_good : (k : Option Items) (p : Piece) (is : Items) (s t : Shape) (ss : List Shape) (js ks : List Record)
-    (u : Forest) (o : Shape) → Derives table (one p) js u →
+    (u : Forest) (o : Shape) → Derives grammar (one p) js u →
     Fits t u → Good (plug is k) (joined s t) ss ks o → Good (plug (piece p is) k) s ss (js ++ ks) o
 piece_good None p is s t ss js ks u o d f g x xs h hs =
     let m : Rest is (x ⧺ u) xs ks o = g (x ⧺ u) xs (joined_fits s t x u h f) hs in
@@ -104,7 +104,7 @@ group_good (Some b) a is s t ss js ks o f g x xs h hs =
     record { tree = m.tree; derives = grouped i.derives m.derives; fits = m.fits }
 
 pub repeat_good : (k : Option Items) (a z is : Items) (s : Shape) (ss : List Shape) (js ks : List Record) (u : Forest)
-    (o : Shape) → Derives table (rest_of (turns_of a z) none []) js u →
+    (o : Shape) → Derives grammar (rest_of (turns_of a z) none []) js u →
     Good (plug is k) Any ss ks o → Good (plug (repeat a z is) k) s ss (js ++ ks) o
 repeat_good None a z is s ss js ks u o d g x xs h hs =
     let m : Rest is (x ⧺ u) xs ks o = g (x ⧺ u) xs tt hs in

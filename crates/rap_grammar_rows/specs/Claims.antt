@@ -14,8 +14,8 @@ use Rattle.rap_grammar_rows.specs.declared.shape.Outcome.TheVariants as outcome
 use Rattle.rap_grammar_rows.specs.declared.shape.Shape.{Shape}
 use Rattle.rap_grammar_rows.specs.declared.shape.Shape.TheVariants.{Empty, OneNode, EndsInNode, Any}
 use Rattle.rap_grammar_scripts.specs.Test.{holds}
+use Rattle.rap_grammar_table.specs.Rows.{grammar}
 use Rattle.rap_grammar_table.specs.Known.{Sees}
-use Rattle.rap_grammar_table.specs.Rows.{table}
 use Rattle.rap_grammar_table.specs.Table.{Piece, Items, appended, turns_of, folding, Derives, one, rest_of, cat}
 
 -- a forest is one node, or its last tree is one
@@ -62,7 +62,7 @@ ends_in_node Any = false
 -- the rest of a row derives these tokens, behind this forest in the open nodes, and its tree is of this shape
 pub record Rest (is : Items) (x : Forest) (xs : List Forest) (ks : List Record) (o : Shape) : Type 0 where
   pub tree : Forest
-  pub derives : Derives table (rest_of is x xs) ks tree
+  pub derives : Derives grammar (rest_of is x xs) ks tree
   pub fits : Fits o tree
 
 -- it does so behind all forests of these shapes
@@ -126,7 +126,7 @@ pub record IsPiece (tokens : List Record) (p : Piece) (start end : ℕ) (o : Sha
   pub part : List Record
   pub is_part : Segment tokens start end part
   pub tree : Forest
-  pub derives : Derives table (one p) part tree
+  pub derives : Derives grammar (one p) part tree
   pub fits : Fits o tree
 
 -- any number of turns and what stands last
@@ -134,12 +134,12 @@ pub record IsTurns (tokens : List Record) (turn last start end : ℕ) : Type 0 w
   pub part : List Record
   pub is_part : Segment tokens start end part
   pub tree : Forest
-  pub derives : Derives table (rest_of (turns_of (at_place turn) (at_place last)) none [] []) part tree
+  pub derives : Derives grammar (rest_of (turns_of (at_place turn) (at_place last)) none [] []) part tree
 
 -- nodes around one
 pub record Folded (n : ℕ) (ws : Items) (part : List Record) (k : ℕ) (c : Forest) : Type 0 where
   pub tree : Forest
-  pub derives : Derives table (rest_of (folding n ws) (node none k c) []) part tree
+  pub derives : Derives grammar (rest_of (folding n ws) (node none k c) []) part tree
   pub is_node : IsNode tree
 
 pub record IsFold (tokens : List Record) (place n start end : ℕ) : Type 0 where

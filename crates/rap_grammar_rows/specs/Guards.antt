@@ -11,8 +11,7 @@ use Rattle.rap_grammar_scripts.specs.Visibility.{starts_restriction, starts_in_r
 use Rattle.rap_grammar_scripts.specs.Words.{is_at, next_is, next_so}
 use Rattle.rap_grammar_table.specs.GenericRows.{bounds_end}
 use Rattle.rap_grammar_table.specs.ItemRows.{no_impl_type}
-use Rattle.rap_grammar_table.specs.Known.{Place}
-use Rattle.rap_grammar_table.specs.Look.{anything}
+use Rattle.rap_grammar_table.specs.Known.{Place, anything}
 use Rattle.rap_grammar_table.specs.Notation.{of_kinds}
 
 abbrev pub Guard : Type 0

@@ -5,7 +5,8 @@ ghost use Rattle.rap_grammar_rows.specs.Claims.{From, Holds, point};
 ghost use Rattle.rap_grammar_rows.specs.Code.{row_places, sets, turns};
 ghost use Rattle.rap_grammar_rows.specs.Decode.{set_in, turn_in};
 ghost use Rattle.rap_grammar_rows.specs.Meaning.{at_place};
-ghost use Rattle.rap_grammar_table.specs.Rows.{table};
+ghost use Rattle.rap_grammar_table.specs.Rows.{grammar};
+ghost use Rattle.rap_grammar_table.proofs.Table.{table};
 ghost use Rattle.rap_grammar_table.specs.Table.{HasWay, Items, row_at};
 ghost use Rattle.rap_grammar_table.specs.Tops.{MakesRow, file_row};
 
@@ -59,7 +60,7 @@ fn row_starts(number: usize) -> &'static [u16]
 
 /// Where a row of a category begins, by their numbers.
 pub fn row_place(category: u16, row: usize) -> Option<usize>
-    ensures { IfSome result (λ place. row_at row (table.rows category) ≡ Some (at_place place)) }
+    ensures { IfSome result (λ place. row_at row (grammar category) ≡ Some (at_place place)) }
 {
     let places = row_starts(usize::from(category));
     if row >= places.len() {

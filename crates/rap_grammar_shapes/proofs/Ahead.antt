@@ -4,7 +4,7 @@ use Rattle.rap_base.specs.TokenKind.{SHEBANG}
 use Rattle.rap_events.specs.Record.{Record}
 use Rattle.rap_grammar_scripts.specs.Test.{Test, kind_so, word_so, edition_so, comes, borne, negated, also, or_else, told, operator_so}
 use Rattle.rap_grammar_table.specs.Known.{Place, unclear, Shows}
-use Rattle.rap_grammar_table.specs.Narrow.{narrowed}
+use Rattle.rap_grammar_table.proofs.Narrow.{narrowed}
 use Rattle.rap_grammar_shapes.proofs.Content.{Content, any_leaf, leaf_of, choose, equal_kinds}
 
 -- The kinds of which each of the next tokens has one, where that is known.

@@ -9,11 +9,10 @@ use Rattle.rap_events.proofs.Truth.{or_left, or_right}
 use Rattle.rap_events.specs.Record.{Record, IsTokenRecord, next_kind, kind_at, contextual_at, joint_at}
 use Rattle.rap_grammar_scripts.specs.Test.{Test, holds}
 use Rattle.rap_grammar_table.specs.Known.{Place, place_at, among, within, Fits, Shows, Sees, this_way, later_way}
-use Rattle.rap_grammar_table.specs.Narrow.{narrowed}
+use Rattle.rap_grammar_table.proofs.Narrow.{narrowed}
 use Rattle.rap_grammar_table.specs.Shapes.{leaf_child}
 use Rattle.rap_grammar_table.proofs.Known.{by_truth, nothing_known, shows_drop}
-use Rattle.rap_grammar_table.proofs.Look.{same_self}
-use Rattle.rap_grammar_table.proofs.Narrow.{narrowed_sees}
+use Rattle.rap_grammar_table.proofs.NarrowLaws.{narrowed_sees}
 use Rattle.rap_grammar_shapes.proofs.Ahead.{Ahead, of_kinds, places, Comes, kinds_below, all_kinds, or_all, filled, reach, if_few, few_of, before_more, brief, equal_option, equal_ahead, is_way_of, with_way, ways, asked, is_of_operator, learned, by_list, by_option, by_ahead, next_leaf}
 use Rattle.rap_grammar_shapes.proofs.Content.{Holds, a_leaf, some_leaf, equal_kinds}
 use Rattle.rap_grammar_shapes.proofs.ContentLaws.{by_choice, by_chosen, by_either, equal_kinds_so}

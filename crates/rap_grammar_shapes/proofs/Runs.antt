@@ -4,7 +4,7 @@ use Rattle.rap_events.proofs.Truth.{and_both, or_left, or_right}
 use Rattle.rap_grammar_table.specs.Known.{among, every_one}
 use Rattle.rap_grammar_table.specs.Shapes.{Child, leaf_child, node_child, float_child}
 use Rattle.rap_grammar_table.proofs.Known.{by_or, every_so, same_number}
-use Rattle.rap_grammar_table.proofs.Look.{same_self}
+use Rattle.rap_grammar_table.proofs.LookLaws.{same_self}
 use Rattle.rap_grammar_shapes.proofs.Automata.{Step, by_leaf, by_node, by_any, by_float, State, state_at, accepts, steps_of, step_leads, leads, Accepts, at_end, by_step}
 use Rattle.rap_grammar_shapes.specs.Whole.{are_sound, IsWhole}
 use Rattle.rap_grammar_shapes.proofs.Content.{Content, nothing, leaf_of, any_leaf, node_of, a_float, spoilt, owed, ◌⋅◌, ◌or◌, any_of, Holds, no_child, a_leaf, some_leaf, a_node, the_float, is_told, not_whole, in_order, by_first, by_second, no_more, one_more, choose, equal_kinds, added, united}

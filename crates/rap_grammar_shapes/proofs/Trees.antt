@@ -10,9 +10,9 @@ use Rattle.rap_events.specs.State.{but_last, last_children, skipped}
 use Rattle.rap_grammar_scripts.specs.Script.{Spot, reported, skipped_over, started, preceded, finished, extended, abandoned, split_apart, newest, last_kind}
 use Rattle.rap_grammar_scripts.proofs.Forests.{⧺-assoc}
 use Rattle.rap_grammar_table.specs.Known.{among, every_one}
-use Rattle.rap_grammar_table.specs.Shapes.{Child, leaf_child, node_child, message_child, float_child, children_of}
+use Rattle.rap_grammar_table.specs.Shapes.{Child, leaf_child, node_child, float_child, children_of}
 use Rattle.rap_grammar_table.proofs.Known.{every_so}
-use Rattle.rap_grammar_table.proofs.Look.{same_self}
+use Rattle.rap_grammar_table.proofs.LookLaws.{same_self}
 use Rattle.rap_grammar_table.proofs.Spells.{children-⧺, same_last}
 use Rattle.rap_grammar_shapes.specs.Spelled.{spelled_children}
 use Rattle.rap_grammar_shapes.specs.Whole.{IsWhole, are_sound}

@@ -7,13 +7,13 @@ use Rattle.rap_events.specs.Forest.{Forest, none, node, ◌⧺◌, used}
 use Rattle.rap_events.specs.Record.{Record, next_kind}
 use Rattle.rap_grammar_ends.proofs.Standing.{Stands, empty, with_leaf, with_node, both, of_node, used-stands}
 use Rattle.rap_grammar_scripts.specs.Test.{Test, kind_so}
+use Rattle.rap_grammar_table.specs.Rows.{grammar, row_lists, rows_at}
 use Rattle.rap_grammar_table.specs.Again.{IsMade, IsTableTree, MakesIn, MakesItsNodes, a_file, category_in, of_category, parsed_again, some_items, some_stmts}
 use Rattle.rap_grammar_table.specs.Categories.{AssocItems, Attr, Block, ExternItems, ItemList, MatchArms, RecordFields, RecordValues, TokenTree, UseTrees, Variants}
-use Rattle.rap_grammar_table.specs.Good.{Good, good_category}
+use Rattle.rap_grammar_table.proofs.Good.{Good, good_category}
 use Rattle.rap_grammar_table.specs.Known.{Place, among}
-use Rattle.rap_grammar_table.specs.Look.{depth}
-use Rattle.rap_grammar_table.specs.Notation.{Entry, entry_at}
-use Rattle.rap_grammar_table.specs.Rows.{entries, table}
+use Rattle.rap_grammar_table.proofs.Look.{depth}
+use Rattle.rap_grammar_table.proofs.Table.{table}
 use Rattle.rap_grammar_table.specs.Table.{Piece, tok, word, comp, cat, Items, nil, begin, close, piece, choice, repeat, turns_of, group, folds, folding, unless, appended, HasWay, first_turn, other_turn, Touching, last_part, next_part, Goal, one, rest_of, row_at, Derives, by_row, a_token, a_word, an_operator, ended, begun, closed, put, first_way, second_way, last_turn, one_turn, repeated, grouped, folded_none, folded_more, folded, guarded}
 use Rattle.rap_grammar_table.specs.Tops.{Makes, MakesRow}
 use Rattle.rap_grammar_table.proofs.Entries.{all_rows, of_all}
@@ -24,7 +24,7 @@ use Rattle.rap_grammar_table.proofs.Rows.{checked}
 use Rattle.rap_grammar_table.proofs.Sound.{claim}
 
 abbrev Makings : Goal → List Record → Forest → Type 0
-Makings g ks y = Derives table g ks y
+Makings g ks y = Derives grammar g ks y
 
 -- what a row that is followed so far, with this forest of these tokens, derives of what is left of it
 abbrev Leads : Forest → List Record → Followed → Type 0
@@ -99,7 +99,7 @@ told true is n (one_open s m o) = one_open s (n refl) o
 told false is n o = o
 
 -- the rows of categories, followed from their first pieces
-from_start : (c n : ℕ) (is : Items) → row_at n (table.rows c) ≡ Some (begin is) →
+from_start : (c n : ℕ) (is : Items) → row_at n (grammar c) ≡ Some (begin is) →
     Leads none [] (record { category = c; left = is })
 from_start c n is e = λ ks y d. by_row n e (begun d)
 
@@ -392,24 +392,24 @@ width_is (last_part e) = refl
 width_is (next_part e j t) = ap suc (as_many t)
 
 -- each row of the table is such a row
-abbrev rows_hold : Entry → Bool
-rows_hold e = all_rows (parts_so depth [] false []) e.rows
+abbrev rows_hold : List Items → Bool
+rows_hold rs = all_rows (parts_so depth [] false []) rs
 
-abbrev every_entry : List Entry → Bool
-every_entry [] = true
-every_entry (e ∷ es) = rows_hold e && every_entry es
+abbrev each_hold : List (List Items) → Bool
+each_hold [] = true
+each_hold (rs ∷ more) = rows_hold rs && each_hold more
 
-all_hold : every_entry entries ≡ true
+all_hold : each_hold row_lists ≡ true
 all_hold = refl
 
-entry_holds : (es : List Entry) (c : ℕ) → every_entry es ≡ true → rows_hold (entry_at c es) ≡ true
-entry_holds [] c h = refl
-entry_holds (e ∷ es) zero h = and_left (rows_hold e) _ h
-entry_holds (e ∷ es) (suc c) h = entry_holds es c (and_right (rows_hold e) _ h)
+category_holds : (rows : List (List Items)) (c : ℕ) → each_hold rows ≡ true → rows_hold (rows_at c rows) ≡ true
+category_holds [] c h = refl
+category_holds (rs ∷ more) zero h = and_left (rows_hold rs) _ h
+category_holds (rs ∷ more) (suc c) h = category_holds more c (and_right (rows_hold rs) _ h)
 
-row_holds : (c n : ℕ) (row : Items) → row_at n (table.rows c) ≡ Some row → parts_so depth [] false [] row ≡ true
+row_holds : (c n : ℕ) (row : Items) → row_at n (grammar c) ≡ Some row → parts_so depth [] false [] row ≡ true
 row_holds c n row e =
-    of_all (parts_so depth [] false []) (entry_at c entries).rows n row (entry_holds entries c all_hold) e
+    of_all (parts_so depth [] false []) (grammar c) n row (category_holds row_lists c all_hold) e
 
 stands : {g : Goal} {ks : List Record} {y : Forest} → Makings g ks y → Claim g ks y
 stands (by_row {c = c} {row = row} {ks = ks} n e d) = stands d ks (alone depth ks (row_holds c n row e))

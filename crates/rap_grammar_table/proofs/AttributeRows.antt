@@ -2,11 +2,11 @@
 use Rattle.std.proofs.Common.{◌≡◌, true, refl}
 use Rattle.rap_grammar_scripts.specs.declared.rule.Rule.{Rule}
 use Rattle.rap_grammar_scripts.specs.declared.rule.Rule.TheVariants as knot
-use Rattle.rap_grammar_table.specs.Refusal.{accepted}
-use Rattle.rap_grammar_table.specs.Rows.{table}
-use Rattle.rap_grammar_table.specs.AttributeRows.{attr_entry, cfg_entry, macro_path_entry, meta_entry, token_tree_entry, inner_attr_entry}
-use Rattle.rap_grammar_table.specs.Walk.{all_accepted}
-use Rattle.rap_grammar_table.specs.Ways.{some_outcome}
+use Rattle.rap_grammar_table.proofs.Refusal.{accepted}
+use Rattle.rap_grammar_table.proofs.Table.{table}
+use Rattle.rap_grammar_table.proofs.AttributeHints.{attr_entry, cfg_entry, macro_path_entry, meta_entry, token_tree_entry, inner_attr_entry}
+use Rattle.rap_grammar_table.proofs.Walk.{all_accepted}
+use Rattle.rap_grammar_table.proofs.Ways.{some_outcome}
 use Rattle.rap_grammar_table.proofs.Entries.{is_read, EntryChecked}
 use Rattle.rap_grammar_table.proofs.Scripts.{scripts}
 

@@ -11,10 +11,9 @@ use Rattle.rap_events.specs.Record.{Record, IsTokenRecord, next_kind, kind_at, c
 use Rattle.rap_grammar_scripts.specs.First.{one_of}
 use Rattle.rap_grammar_table.specs.Fronts.{any_but}
 use Rattle.rap_grammar_table.specs.Known.{Fits, Sees, among, every_one, place_at, this_way}
-use Rattle.rap_grammar_table.specs.Narrow.{those}
-use Rattle.rap_grammar_table.specs.Notation.{of_kinds, up_to}
+use Rattle.rap_grammar_table.specs.Notation.{those, of_kinds, up_to}
 use Rattle.rap_grammar_table.proofs.Known.{by_or, by_truth, same_number}
-use Rattle.rap_grammar_table.proofs.Narrow.{among_those}
+use Rattle.rap_grammar_table.proofs.NarrowLaws.{among_those}
 
 -- the kinds up to one are among those that count up to it
 none_less : (k : ℕ) → nat_le k 0 ≡ true → k ≡ 0

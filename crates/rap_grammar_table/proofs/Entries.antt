@@ -1,16 +1,18 @@
 -- A table is checked where each of its entries is.
-use Rattle.std.proofs.Common.{◌≡◌, Bool, true, false, ◌&&◌, refl, List, [], ◌∷◌, ℕ, zero, suc, Some, subst}
+use Rattle.std.proofs.Common.{◌≡◌, Bool, true, false, ◌&&◌, refl, List, [], ◌∷◌, ℕ, zero, suc, Some, subst, map}
 use Rattle.rap_events.proofs.Truth.{and_left, and_right}
 use Rattle.rap_grammar_scripts.specs.Knot.{script_of}
 use Rattle.rap_grammar_scripts.specs.declared.rule.Rule.{Rule}
-use Rattle.rap_grammar_table.specs.Known.{says}
-use Rattle.rap_grammar_table.specs.Lasts.{ends_plain, if_asked}
-use Rattle.rap_grammar_table.specs.Look.{look, followed, is_one_node, depth}
-use Rattle.rap_grammar_table.specs.Notation.{Entry, no_entry, entry_at, table_of}
-use Rattle.rap_grammar_table.specs.Refusal.{Verdict, accepted}
-use Rattle.rap_grammar_table.specs.Table.{Table, Items, row_at}
-use Rattle.rap_grammar_table.specs.Walk.{reads_row, all_accepted}
-use Rattle.rap_grammar_table.specs.Ways.{some_outcome}
+use Rattle.rap_grammar_table.proofs.Evaluate.{says}
+use Rattle.rap_grammar_table.proofs.Lasts.{ends_plain, if_asked}
+use Rattle.rap_grammar_table.proofs.Look.{look, followed, is_one_node, depth}
+use Rattle.rap_grammar_table.proofs.Entry.{Entry, no_entry, entry_at, table_of}
+use Rattle.rap_grammar_table.proofs.Refusal.{Verdict, accepted}
+use Rattle.rap_grammar_table.proofs.Hints.{Table}
+use Rattle.rap_grammar_table.specs.Rows.{rows_at}
+use Rattle.rap_grammar_table.specs.Table.{Grammar, Items, row_at}
+use Rattle.rap_grammar_table.proofs.Walk.{reads_row, all_accepted}
+use Rattle.rap_grammar_table.proofs.Ways.{some_outcome}
 use Rattle.rap_grammar_table.proofs.Sound.{Checked, of_accepted}
 
 -- all rows
@@ -61,22 +63,36 @@ asked_so : (a b : Bool) → a ≡ true → if_asked a b ≡ true → b ≡ true
 asked_so true b h i = i
 asked_so false b h i = absurd cc
 
-pub checked_of : (es : List Entry) → AllChecked (table_of es) es → Checked (table_of es)
-checked_of es a =
-    let t = table_of es in
+pub checked_of : (g : Grammar) (es : List Entry) → ((c : ℕ) → g c ≡ (entry_at c es).rows) →
+    AllChecked (table_of g es) es → Checked (table_of g es)
+checked_of g es same a =
+    let t = table_of g es in
     let at : (c : ℕ) → EntryChecked t (entry_at c es) = λ c. entry_checked t a c in
+    let there : (c n : ℕ) (row : Items) → row_at n (g c) ≡ Some row → row_at n (entry_at c es).rows ≡ Some row =
+    λ c n row h. subst (λ (rs : List Items). row_at n rs ≡ Some row) (same c) h in
     record {
       reads =
-          λ c n row h r i. of_accepted (is_read t (entry_at c es) r) (entry_at c es).rows n row ((at c).reads r i) h;
+          λ c n row h r i.
+          of_accepted (is_read t (entry_at c es) r) (entry_at c es).rows n row ((at c).reads r i) (there c n row h);
       begins =
           λ c n row h.
           and_left (says (look t row (entry_at c es).follows) (entry_at c es).firsts) _
-          (of_all (begins_so t (entry_at c es)) (entry_at c es).rows n row (at c).begins h);
+          (of_all (begins_so t (entry_at c es)) (entry_at c es).rows n row (at c).begins (there c n row h));
       unbraced =
           λ c n row h i.
           asked_so (entry_at c es).unbraced (ends_plain t row) i
           (and_right (says (look t row (entry_at c es).follows) (entry_at c es).firsts) _
-          (of_all (begins_so t (entry_at c es)) (entry_at c es).rows n row (at c).begins h));
-      followed = λ c n row h. of_all (followed_so t (entry_at c es)) (entry_at c es).rows n row (at c).followed h;
-      is_node = λ c n row h i. of_all (is_one_node t depth) (entry_at c es).rows n row ((at c).nodes i) h;
+          (of_all (begins_so t (entry_at c es)) (entry_at c es).rows n row (at c).begins (there c n row h)));
+      followed =
+          λ c n row h.
+          of_all (followed_so t (entry_at c es)) (entry_at c es).rows n row (at c).followed (there c n row h);
+      is_node =
+          λ c n row h i.
+          of_all (is_one_node t depth) (entry_at c es).rows n row ((at c).nodes i) (there c n row h);
     }
+
+-- The rows of entries by their numbers.
+pub entry_rows : (n : ℕ) (es : List Entry) → (entry_at n es).rows ≡ rows_at n (map (λ (e : Entry). e.rows) es)
+entry_rows n [] = refl
+entry_rows zero (e ∷ es) = refl
+entry_rows (suc n) (e ∷ es) = entry_rows n es

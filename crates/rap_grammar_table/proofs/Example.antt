@@ -6,16 +6,16 @@ use Rattle.rap_events.specs.Forest.{Forest, none, node, leaf}
 use Rattle.rap_events.specs.Record.{Record}
 use Rattle.rap_grammar_scripts.specs.Test.{holds}
 use Rattle.rap_grammar_scripts.specs.Words.{next_is}
+use Rattle.rap_grammar_table.specs.Rows.{grammar}
 use Rattle.rap_grammar_table.specs.Categories.{Bound, Predicate, Ty, PlainTy}
 use Rattle.rap_grammar_table.specs.GenericRows.{bounds_end}
 use Rattle.rap_grammar_table.specs.Known.{Sees}
 use Rattle.rap_grammar_table.specs.Notation.{◌⊳◌, t, c, opt, alone, row}
-use Rattle.rap_grammar_table.specs.Rows.{table}
 use Rattle.rap_grammar_table.specs.Table.{Derives, one, rest_of, cat, turns_of, by_row, a_token, ended, begun, closed, put, first_way, second_way, last_turn, repeated, grouped, guarded}
 use Rattle.rap_grammar_table.proofs.Known.{never_so}
 
 abbrev Makes : ℕ → List Record → Forest → Type 0
-Makes c ks y = Derives table (one (cat c)) ks y
+Makes c ks y = Derives grammar (one (cat c)) ks y
 
 a_never : (r : Record) → r.kind ≡ BANG → Makes Ty (r ∷ []) (node none NEVER_TYPE (leaf none r.kind 1))
 a_never r h = by_row 7 refl (begun (put (a_token (rw h refl) refl) (closed ended)))
@@ -35,7 +35,7 @@ a_reference a m r h i j =
 no_colon : (l : List Record) → Sees bounds_end l → holds (next_is COLON) l ≡ false
 no_colon l s = never_so (next_is COLON) bounds_end l refl s
 
-no_more : Derives table
+no_more : Derives grammar
     (rest_of (turns_of (row (c Bound ⊳ t PLUS)) (row (alone (opt (c Bound))))) none []) [] none
 no_more = last_turn (grouped {ks = []} {js = []} (second_way ended) ended)
 

@@ -5,17 +5,18 @@ use Rattle.rap_events.specs.Record.{Record}
 use Rattle.rap_grammar_scripts.specs.Script.{Script, Outcome, passes, fails, test}
 use Rattle.rap_grammar_scripts.specs.Test.{Test, holds}
 use Rattle.rap_grammar_scripts.specs.declared.rule.Rule.{Rule}
-use Rattle.rap_grammar_table.specs.Built.{Built, empty, over, At, with_row, with_facts}
-use Rattle.rap_grammar_table.specs.Good.{Good, Made, made_end, made_begin, made_close, made_piece, made_first, made_second, made_last, made_turn, made_repeat, made_group, made_folded_none, made_folded_more, made_folds, made_guarded}
+use Rattle.rap_grammar_table.proofs.Built.{Built, empty, over, At, with_row, with_facts}
+use Rattle.rap_grammar_table.proofs.Good.{Good, Made, made_end, made_begin, made_close, made_piece, made_first, made_second, made_last, made_turn, made_repeat, made_group, made_folded_none, made_folded_more, made_folds, made_guarded}
 use Rattle.rap_grammar_table.specs.Known.{Answer, sure, never, unclear, Place, agrees, Sees}
-use Rattle.rap_grammar_table.specs.Look.{look, depth}
-use Rattle.rap_grammar_table.specs.Narrow.{Fact, left_by, AreSo, looks_on}
-use Rattle.rap_grammar_table.specs.Refusal.{where_so, Verdict, accepted, in_case}
-use Rattle.rap_grammar_table.specs.Table.{Table, Piece, Items, nil, begin, close, piece, choice, repeat, turns_of, group, folds, folding, way, unless, appended}
-use Rattle.rap_grammar_table.specs.Ways.{some_way, may_be, exposed, ahead, settled, forked, by_answer, answer_at, both_ways, by_known, undecided, tested}
+use Rattle.rap_grammar_table.proofs.Look.{look, depth}
+use Rattle.rap_grammar_table.proofs.Narrow.{Fact, left_by, AreSo, looks_on}
+use Rattle.rap_grammar_table.proofs.Refusal.{where_so, Verdict, accepted, in_case}
+use Rattle.rap_grammar_table.proofs.Hints.{Table}
+use Rattle.rap_grammar_table.specs.Table.{Piece, Items, nil, begin, close, piece, choice, repeat, turns_of, group, folds, folding, way, unless, appended}
+use Rattle.rap_grammar_table.proofs.Ways.{some_way, may_be, exposed, ahead, settled, forked, by_answer, answer_at, both_ways, by_known, undecided, tested}
 use Rattle.rap_grammar_table.proofs.Known.{agrees_all, not_true, by_truth}
-use Rattle.rap_grammar_table.proofs.Look.{seen}
-use Rattle.rap_grammar_table.proofs.Narrow.{left_sees}
+use Rattle.rap_grammar_table.proofs.LookLaws.{seen}
+use Rattle.rap_grammar_table.proofs.NarrowLaws.{left_sees}
 use Rattle.rap_grammar_table.proofs.Values.{value, values, spot_at, Stands, Comes, before}
 use Rattle.rap_grammar_table.proofs.Verdict.{both_left, both_right, in_case_so, told_so, by_first, by_second}
 

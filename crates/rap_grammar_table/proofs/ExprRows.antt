@@ -5,13 +5,14 @@ use Rattle.rap_grammar_scripts.specs.Script.{Outcome, something}
 use Rattle.rap_grammar_scripts.specs.declared.arguments.Restrictions.{Restrictions}
 use Rattle.rap_grammar_scripts.specs.declared.rule.Rule.{Rule}
 use Rattle.rap_grammar_scripts.specs.declared.rule.Rule.TheVariants as knot
-use Rattle.rap_grammar_table.specs.ExprRows.{outcomes_if, by_expr, arg_list_entry, atom_entry, atom_path_entry, brace_tree_entry, cast_path_entry, cast_type_entry, else_prefixed_entry, else_value_entry, name_expr_entry, open_atom_entry, open_prefixed_entry, operand_entry, plain_atom_entry, prefixed_entry, round_tree_entry, stmt_operand_entry, stmt_prefixed_entry}
-use Rattle.rap_grammar_table.specs.Notation.{Entry}
-use Rattle.rap_grammar_table.specs.Refusal.{accepted}
-use Rattle.rap_grammar_table.specs.Rows.{table}
-use Rattle.rap_grammar_table.specs.Table.{Table}
-use Rattle.rap_grammar_table.specs.Walk.{all_accepted}
-use Rattle.rap_grammar_table.specs.Ways.{same_flag, some_outcome}
+use Rattle.rap_grammar_table.proofs.ExprHints.{outcomes_if, by_expr, arg_list_entry, atom_entry, atom_path_entry, brace_tree_entry, cast_path_entry, cast_type_entry, else_prefixed_entry, else_value_entry, name_expr_entry, open_atom_entry, open_prefixed_entry, operand_entry, plain_atom_entry, prefixed_entry, round_tree_entry, stmt_operand_entry, stmt_prefixed_entry}
+use Rattle.rap_grammar_table.proofs.Entry.{Entry}
+use Rattle.rap_grammar_table.proofs.Refusal.{accepted}
+use Rattle.rap_grammar_table.proofs.Table.{table}
+use Rattle.rap_grammar_table.proofs.Hints.{Table}
+use Rattle.rap_grammar_table.proofs.Walk.{all_accepted}
+use Rattle.rap_grammar_table.specs.Notation.{same_flag}
+use Rattle.rap_grammar_table.proofs.Ways.{some_outcome}
 use Rattle.rap_grammar_table.proofs.Entries.{is_read, EntryChecked}
 use Rattle.rap_grammar_table.proofs.Known.{same_number}
 use Rattle.rap_grammar_table.proofs.Pieces.{same_flags}

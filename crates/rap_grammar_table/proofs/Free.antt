@@ -6,10 +6,11 @@ use Rattle.rap_grammar_scripts.proofs.Forests.{message_count-⧺}
 use Rattle.rap_grammar_scripts.proofs.OneEnd.{one_end}
 use Rattle.rap_grammar_scripts.specs.Script.{Spot}
 use Rattle.rap_grammar_scripts.specs.declared.rule.Rule.{Rule}
-use Rattle.rap_grammar_table.specs.Good.{Good, good_category, Reads}
+use Rattle.rap_grammar_table.proofs.Good.{Good, good_category, Reads}
 use Rattle.rap_grammar_table.specs.Known.{Sees}
-use Rattle.rap_grammar_table.specs.Table.{Table, Goal, one, rest_of, cat, Derives, by_row, a_token, a_word, an_operator, ended, begun, closed, put, first_way, second_way, last_turn, one_turn, repeated, grouped, folded_none, folded_more, folded, guarded}
-use Rattle.rap_grammar_table.specs.Ways.{some_outcome}
+use Rattle.rap_grammar_table.proofs.Hints.{Table}
+use Rattle.rap_grammar_table.specs.Table.{Grammar, Goal, one, rest_of, cat, Derives, by_row, a_token, a_word, an_operator, ended, begun, closed, put, first_way, second_way, last_turn, one_turn, repeated, grouped, folded_none, folded_more, folded, guarded}
+use Rattle.rap_grammar_table.proofs.Ways.{some_outcome}
 use Rattle.rap_grammar_table.proofs.Sound.{Checked, claim}
 use Rattle.rap_grammar_table.proofs.Values.{none-⧺}
 
@@ -19,7 +20,7 @@ read_alone r h (good_category x n p o z) = z r none [] h
 
 -- the same tokens of a category have one tree, before tokens that may follow
 pub unique : {t : Table} → Checked t → (c : ℕ) (r : Rule) → some_outcome (t.reads r c) ≡ true → {ks : List Record}
-    {y z : Forest} → Derives t (one (cat c)) ks y → Derives t (one (cat c)) ks z → (l : List Record) → Sees (t.follows c) l → y ≡ z
+    {y z : Forest} → Derives t.rows (one (cat c)) ks y → Derives t.rows (one (cat c)) ks z → (l : List Record) → Sees (t.follows c) l → y ≡ z
 unique o c r h {y = y} {z = z} d e l s =
     let m = read_alone r h (claim o d l s) in
     let n = read_alone r h (claim o e l s) in
@@ -47,7 +48,7 @@ left_clean a b h = omega (arith, h)
 right_clean : (a b : ℕ) → a + b ≡ 0 → b ≡ 0
 right_clean a b h = omega (arith, h)
 
-pub clean : {t : Table} {g : Goal} {ks : List Record} {y : Forest} → Derives t g ks y → Clean g y
+pub clean : {g : Grammar} {q : Goal} {ks : List Record} {y : Forest} → Derives g q ks y → Clean q y
 clean (by_row n e d) = clean d refl tt
 clean (a_token m w) = refl
 clean (a_word e i) = refl

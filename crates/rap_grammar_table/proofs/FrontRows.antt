@@ -1,10 +1,13 @@
 -- The rows of what is read from braces alone, and of statements at the front of an input: computed.
 use Rattle.std.proofs.Common.{refl}
 use Rattle.rap_base.specs.NodeKind.{ASSOC_ITEM_LIST, EXTERN_ITEM_LIST, ITEM_LIST}
-use Rattle.rap_grammar_table.specs.ExprRows.{record_value_entry, record_values}
-use Rattle.rap_grammar_table.specs.ItemRows.{in_braces, items_under, record_fields, use_list, variant_list}
-use Rattle.rap_grammar_table.specs.Rows.{table}
-use Rattle.rap_grammar_table.specs.StmtRows.{front_stmt_entry, last_stmt_entry, match_arms}
+use Rattle.rap_grammar_table.proofs.ExprHints.{record_value_entry}
+use Rattle.rap_grammar_table.specs.ExprRows.{record_values}
+use Rattle.rap_grammar_table.proofs.ItemHints.{in_braces}
+use Rattle.rap_grammar_table.specs.ItemRows.{items_under, record_fields, use_list, variant_list}
+use Rattle.rap_grammar_table.proofs.Table.{table}
+use Rattle.rap_grammar_table.proofs.StmtHints.{front_stmt_entry, last_stmt_entry}
+use Rattle.rap_grammar_table.specs.StmtRows.{match_arms}
 use Rattle.rap_grammar_table.proofs.Entries.{EntryChecked}
 
 pub field_lists : EntryChecked table (in_braces record_fields)

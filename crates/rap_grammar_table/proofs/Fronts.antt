@@ -20,26 +20,32 @@ use Rattle.rap_grammar_scripts.specs.UseItem.{use_tree_list}
 use Rattle.rap_grammar_scripts.specs.Visibility.{opt_visibility}
 use Rattle.rap_grammar_scripts.specs.declared.arguments.Semicolon.TheVariants as semicolon
 use Rattle.rap_grammar_scripts.specs.declared.rule.Rule.{Rule}
+use Rattle.rap_grammar_table.specs.Rows.{grammar}
 use Rattle.rap_grammar_table.specs.Categories.{AnchoredPath, AssocItems, Block, Expr, ExternItems, FrontStmt, GlobalPath, Item, ItemList, LastStmt, MatchArms, Meta, Path, Pattern, RecordFields, RecordValues, SinglePattern, TokenTree, Ty, UseTrees, Variants, Visibility}
-use Rattle.rap_grammar_table.specs.Fronts.{any_but, MakesBefore, MakesFront}
-use Rattle.rap_grammar_table.specs.Good.{Good, good_category, IsNode}
-use Rattle.rap_grammar_table.specs.Known.{Place, Sees, says, this_way}
-use Rattle.rap_grammar_table.specs.Look.{anything, followed, look}
-use Rattle.rap_grammar_table.specs.Refusal.{Verdict, accepted}
-use Rattle.rap_grammar_table.specs.Rows.{table}
+use Rattle.rap_grammar_table.specs.Fronts.{any_but, MakesBefore}
+use Rattle.rap_grammar_table.proofs.Good.{Good, good_category, IsNode}
+use Rattle.rap_grammar_table.specs.Known.{Place, Sees, this_way, anything}
+use Rattle.rap_grammar_table.proofs.Evaluate.{says}
+use Rattle.rap_grammar_table.proofs.Look.{followed, look}
+use Rattle.rap_grammar_table.proofs.Refusal.{Verdict, accepted}
+use Rattle.rap_grammar_table.proofs.Table.{table}
 use Rattle.rap_grammar_table.specs.Table.{Items, nil, piece, cat, put, ended, by_row}
 use Rattle.rap_grammar_table.specs.Tops.{Makes, MakesRow}
-use Rattle.rap_grammar_table.specs.Walk.{all_accepted, nesting, reads_row}
-use Rattle.rap_grammar_table.specs.Ways.{has_outcome}
+use Rattle.rap_grammar_table.proofs.Walk.{all_accepted, nesting, reads_row}
+use Rattle.rap_grammar_table.proofs.Ways.{has_outcome}
 use Rattle.rap_grammar_table.proofs.Entries.{all_rows, of_all}
 use Rattle.rap_grammar_table.proofs.Free.{clean}
 use Rattle.rap_grammar_table.proofs.Known.{weaker}
-use Rattle.rap_grammar_table.proofs.Look.{seen}
+use Rattle.rap_grammar_table.proofs.LookLaws.{seen}
 use Rattle.rap_grammar_table.proofs.Rows.{checked}
 use Rattle.rap_grammar_table.proofs.Scripts.{scripts}
 use Rattle.rap_grammar_table.proofs.Sound.{claim, of_accepted, row_read}
 use Rattle.rap_grammar_table.proofs.Tests.{tests}
 use Rattle.rap_grammar_table.proofs.Values.{none-⧺}
+
+-- a category's tokens and their tree, before what may follow the category
+abbrev pub MakesFront : ℕ → List Record → List Record → Forest → Type 0
+MakesFront category front rest tree = MakesBefore (table.follows category) category front rest tree
 
 only_something : (v : Outcome) → has_outcome (something ∷ []) v ≡ true → v ≡ something
 only_something nothing h = absurd cc
@@ -76,16 +82,16 @@ row_made is g s h w d e b = rw none-⧺ at (row_adds is g s h w d e none b)
 
 -- of a category by its rows, and of one that a rule reads
 abbrev followed_so : ℕ → List (List Place) → Bool
-followed_so c g = all_rows (λ is. followed table is g g) (table.rows c)
+followed_so c g = all_rows (λ is. followed table is g g) (grammar c)
 
 abbrev rows_so : List (List Place) → Script Rule → ℕ → Verdict
-rows_so g s c = all_accepted (reads_so g s) (table.rows c)
+rows_so g s c = all_accepted (reads_so g s) (grammar c)
 
 by_rows_add : (c : ℕ) (g : List (List Place)) {ks l : List Record} {y : Forest} (s : Script Rule) →
     rows_so g s c ≡ accepted → followed_so c g ≡ true → Makes c ks y → Sees g l → AddsOf s ks l y
 by_rows_add c g s h w (by_row {row = row} n e d) i =
-    row_adds row g s (of_accepted (reads_so g s) (table.rows c) n row h e)
-    (of_all (λ is. followed table is g g) (table.rows c) n row w e) d i
+    row_adds row g s (of_accepted (reads_so g s) (grammar c) n row h e)
+    (of_all (λ is. followed table is g g) (grammar c) n row w e) d i
 
 by_rows_made : (c : ℕ) (g : List (List Place)) {ks l : List Record} {y : Forest} (s : Script Rule) →
     rows_so g s c ≡ accepted → followed_so c g ≡ true → Makes c ks y → Sees g l → MakesOf s ks l y
@@ -93,14 +99,14 @@ by_rows_made c g s h w d i b = rw none-⧺ at (by_rows_add c g s h w d i none b)
 
 -- and its tokens begin as they must
 abbrev begins_so : ℕ → List (List Place) → Bool
-begins_so c g = all_rows (λ is. says (look table is g) (table.firsts c)) (table.rows c)
+begins_so c g = all_rows (λ is. says (look table is g) (table.firsts c)) (grammar c)
 
 by_rows_seen : (c : ℕ) (g : List (List Place)) {ks l : List Record} {y : Forest} → followed_so c g ≡ true →
     begins_so c g ≡ true → Makes c ks y → Sees g l → Sees (table.firsts c) (ks ++ l)
 by_rows_seen c g {ks = ks} {l = l} w h (by_row {row = row} n e d) i =
-    let m = claim checked d g l i (of_all (λ is. followed table is g g) (table.rows c) n row w e) in
+    let m = claim checked d g l i (of_all (λ is. followed table is g g) (grammar c) n row w e) in
     weaker (look table row g) (table.firsts c) (ks ++ l)
-    (of_all (λ is. says (look table is g) (table.firsts c)) (table.rows c) n row h e) (seen table g m.made i)
+    (of_all (λ is. says (look table is g) (table.firsts c)) (grammar c) n row h e) (seen table g m.made i)
 
 pub category_row : (c : ℕ) {ks : List Record} {y : Forest} → Makes c ks y → MakesRow (piece (cat c) nil) ks y
 category_row c d = rw (append-nil, none-⧺) at (put {x = none} d ended)

@@ -17,8 +17,8 @@ use Rattle.rap_grammar_table.specs.Categories.{Item}
 use Rattle.rap_grammar_table.specs.Heads.{file_head, items_head}
 use Rattle.rap_grammar_table.specs.Known.{Place, Fits, Sees, among, place_at, this_way, later_way}
 use Rattle.rap_grammar_table.specs.Notation.{of_kinds}
-use Rattle.rap_grammar_table.specs.Refusal.{accepted}
-use Rattle.rap_grammar_table.specs.Rows.{table}
+use Rattle.rap_grammar_table.proofs.Refusal.{accepted}
+use Rattle.rap_grammar_table.proofs.Table.{table}
 use Rattle.rap_grammar_table.specs.Tops.{MakesRow, at_end}
 use Rattle.rap_grammar_table.proofs.Fronts.{MakesOf, reads_so, row_made}
 use Rattle.rap_grammar_table.proofs.Known.{weaker}

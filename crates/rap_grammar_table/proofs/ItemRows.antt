@@ -2,11 +2,11 @@
 use Rattle.std.proofs.Common.{◌≡◌, Bool, true, false, refl}
 use Rattle.rap_grammar_scripts.specs.declared.rule.Rule.{Rule}
 use Rattle.rap_grammar_scripts.specs.declared.rule.Rule.TheVariants as knot
-use Rattle.rap_grammar_table.specs.Refusal.{accepted}
-use Rattle.rap_grammar_table.specs.Rows.{table}
-use Rattle.rap_grammar_table.specs.ItemRows.{field_entry, fn_params_entry, item_entry, variant_entry, visibility_entry, use_tree_entry}
-use Rattle.rap_grammar_table.specs.Walk.{all_accepted}
-use Rattle.rap_grammar_table.specs.Ways.{some_outcome}
+use Rattle.rap_grammar_table.proofs.Refusal.{accepted}
+use Rattle.rap_grammar_table.proofs.Table.{table}
+use Rattle.rap_grammar_table.proofs.ItemHints.{field_entry, fn_params_entry, item_entry, variant_entry, visibility_entry, use_tree_entry}
+use Rattle.rap_grammar_table.proofs.Walk.{all_accepted}
+use Rattle.rap_grammar_table.proofs.Ways.{some_outcome}
 use Rattle.rap_grammar_table.proofs.Entries.{is_read, EntryChecked}
 use Rattle.rap_grammar_table.proofs.Scripts.{scripts}
 

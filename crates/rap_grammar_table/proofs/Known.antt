@@ -11,7 +11,8 @@ use Rattle.rap_events.specs.OperatorTable.{operators}
 use Rattle.rap_events.specs.Record.{Record, next_kind, kind_at, contextual_at, joint_at}
 use Rattle.rap_grammar_scripts.specs.Operator.{goes_on_with, first_of, operator_in, operator_at}
 use Rattle.rap_grammar_scripts.specs.Test.{Test, kind_so, word_so, edition_so, comes, borne, negated, also, or_else, told, operator_so, holds, kind_after}
-use Rattle.rap_grammar_table.specs.Known.{Answer, sure, never, unclear, Place, place_at, among, within, agrees, Fits, Shows, Sees, this_way, later_way, every_one, judged, decided, not_so, and_so, or_so, and_then, or_then, of_truth, where_sure, is_kind, begin_so, comes_so, borne_so, and_more, goes_so, operators_begun, operators_at, operators_of, operators_known, evaluate, either_so, evaluate_all, says_of, says_so, says_place, says_one, says_some, says}
+use Rattle.rap_grammar_table.specs.Known.{Answer, sure, never, unclear, Place, place_at, among, within, agrees, Fits, Shows, Sees, this_way, later_way, every_one}
+use Rattle.rap_grammar_table.proofs.Evaluate.{judged, decided, not_so, and_so, or_so, and_then, or_then, of_truth, where_sure, is_kind, begin_so, comes_so, borne_so, and_more, goes_so, operators_begun, operators_at, operators_of, operators_known, evaluate, either_so, evaluate_all, says_of, says_so, says_place, says_one, says_some, says}
 
 pub same_number : (j k : ℕ) → (j == k) ≡ true → j ≡ k
 same_number j k h = grind (arith, nat_tests)

@@ -1,137 +1,131 @@
--- The tokens of the rest of a row begin as its look says.
-use Rattle.std.proofs.Common.{◌≡◌, ℕ, zero, suc, Bool, true, false, ◌==◌, List, [], ◌∷◌, ◌++◌, Some, None, refl, subst, ap, append_assoc, arith}
-use Rattle.std.proofs.lemmas.Bool.Decides.{nat_tests}
+-- What the rest of a row begins with, and whether each of its categories is followed by what may follow it.
+use Rattle.std.specs.Prelude.{ℕ, suc, zero, Bool, true, false, ◌&&◌, List, [], ◌∷◌, ◌++◌, Option, Some, None}
 use Rattle.rap_base.specs.TokenKind.{IDENT}
 use Rattle.rap_events.specs.Composite.{parts}
-use Rattle.rap_events.specs.Forest.{Forest}
-use Rattle.rap_events.specs.Record.{Record, kind_at, contextual_at, joint_at}
-use Rattle.rap_grammar_table.specs.Known.{Place, place_at, behind, among, Fits, Shows, Sees, this_way, later_way, unclear, sure}
-use Rattle.rap_grammar_table.specs.Table.{Table, Piece, Items, nil, begin, close, piece, choice, repeat, turns_of, group, folds, folding, way, unless, appended, HasWay, first_turn, other_turn, Touching, last_part, next_part}
-use Rattle.rap_grammar_table.specs.Look.{token_place, look_parts, behind_parts, look_piece, look, look_from, where_there, anything}
-use Rattle.rap_grammar_table.specs.Narrow.{each, narrowed}
-use Rattle.rap_grammar_table.specs.Good.{Good, good_token, good_word, good_operator, good_category, Made, made_end, made_begin, made_close, made_piece, made_first, made_second, made_last, made_turn, made_repeat, made_group, made_folded_none, made_folded_more, made_folds, made_guarded}
-use Rattle.rap_grammar_table.proofs.Known.{nothing_known, sees_left, sees_right}
-use Rattle.rap_grammar_table.proofs.Narrow.{each_sees, narrowed_sees}
+use Rattle.rap_grammar_table.proofs.Evaluate.{behind, says}
+use Rattle.rap_grammar_table.proofs.Hints.{Table}
+use Rattle.rap_grammar_table.proofs.Narrow.{each, narrowed}
+use Rattle.rap_grammar_table.specs.Known.{Place, unclear, sure, among, anything}
+use Rattle.rap_grammar_table.specs.Table.{Piece, tok, word, comp, cat, Items, nil, begin, close, piece, choice, repeat, turns_of, group, folds, folding, way, unless, appended}
 
-pub same_self : (k : ℕ) → (k == k) ≡ true
-same_self k = grind (arith, nat_tests)
+-- a token, by its kinds and words
+abbrev pub token_place : List ℕ → Option (List ℕ) → Place
+token_place kinds words = record { kinds = Some kinds; words = words; joint = unclear }
 
-look_from_appended : (t : Table) (n : ℕ) (a b : Items) (g : List (List Place)) →
-    look_from t n (appended a b) g ≡ look_from t n a (look_from t n b g)
-look_from_appended t n nil b g = refl
-look_from_appended t n (begin a) b g = look_from_appended t n a b g
-look_from_appended t n (close k a) b g = look_from_appended t n a b g
-look_from_appended t n (piece p a) b g =
-    ap (λ (h : List (List Place)). look_piece t p h) (look_from_appended t n a b g)
-look_from_appended t n (choice x y a) b g =
-    ap (λ (h : List (List Place)). look_from t n x h ++ look_from t n y h) (look_from_appended t n a b g)
-look_from_appended t n (repeat x y a) b g =
-    ap (λ (h : List (List Place)). look_from t n x anything ++ look_from t n y h) (look_from_appended t n a b g)
-look_from_appended t n (turns_of x y) b g = refl
-look_from_appended t n (folds m x a) b g =
-    ap (λ (h : List (List Place)). look_from t m x [] ++ h) (look_from_appended t n a b g)
-look_from_appended t n (folding m x) b g = refl
-look_from_appended t n (way j x m a) b g =
-    ap (λ (h : List (List Place)). where_there (among j n) (λ u. look_from t 0 x anything) ++ h)
-    (look_from_appended t n a b g)
-look_from_appended t n (unless h w a) b g =
-    ap (λ (p : List (List Place)). each (λ q. narrowed h false q) p) (look_from_appended t n a b g)
-look_from_appended t n (group x a) b g =
-    ap (λ (h : List (List Place)). look_from t n x h) (look_from_appended t n a b g)
+-- tokens of these kinds, each but the last touching the next one
+abbrev pub look_parts : List ℕ → List Place → List Place
+look_parts [] g = g
+look_parts (k ∷ []) g = record { kinds = Some (k ∷ []); words = None; joint = unclear } ∷ g
+look_parts (k ∷ j ∷ ks) g =
+    record { kinds = Some (k ∷ []); words = None; joint = sure } ∷ look_parts (j ∷ ks) g
 
-pub look_appended : (t : Table) (a b : Items) (g : List (List Place)) → look t (appended a b) g ≡ look t a (look t b g)
-look_appended t a b g = look_from_appended t 0 a b g
+abbrev pub behind_parts : List ℕ → List (List Place) → List (List Place)
+behind_parts ks [] = []
+behind_parts ks (g ∷ gs) = look_parts ks g ∷ behind_parts ks gs
 
-shows_fits : (p : Place) (g : List Place) (r : Record) (rs : List Record) (n : ℕ) →
-    Fits p r.kind r.contextual r.joint → Shows g rs →
-    Fits (place_at n (p ∷ g)) (kind_at (r ∷ rs) n) (contextual_at (r ∷ rs) n) (joint_at (r ∷ rs) n)
-shows_fits p g r rs zero f s = f
-shows_fits p g r rs (suc n) f s = s.fits n
+abbrev pub look_piece : Table → Piece → List (List Place) → List (List Place)
+look_piece t (tok kinds words) g = behind (token_place kinds words) g
+look_piece t (word k) g = behind (token_place (IDENT ∷ []) (Some (k ∷ []))) g
+look_piece t (comp k) g = behind_parts (parts k) g
+look_piece t (cat c) g = t.firsts c
 
-shows_next : (p : Place) (g : List Place) (r : Record) (rs : List Record) → Fits p r.kind r.contextual r.joint →
-    Shows g rs → Shows (p ∷ g) (r ∷ rs)
-shows_next p g r rs f s = record { fits = λ n. shows_fits p g r rs n f s }
+-- the ways of a turn that may come
+abbrev pub where_there : Bool → (Unit {0} → List (List Place)) → List (List Place)
+where_there true f = f tt
+where_there false f = []
 
-sees_behind : (p : Place) (g : List (List Place)) (r : Record) (rs : List Record) →
-    Fits p r.kind r.contextual r.joint → Sees g rs → Sees (behind p g) (r ∷ rs)
-sees_behind p [] r rs f s = elim s [ ]
-sees_behind p (x ∷ g) r rs f (this_way s) = this_way (shows_next p x r rs f s)
-sees_behind p (x ∷ g) r rs f (later_way s) = later_way (sees_behind p g r rs f s)
+-- What comes next, of the rest of a row and what may follow it; of turns around a node, those for this number.
+abbrev pub look_from : Table → ℕ → Items → List (List Place) → List (List Place)
+look_from t n nil g = g
+look_from t n (begin a) g = look_from t n a g
+look_from t n (close k a) g = look_from t n a g
+look_from t n (piece p a) g = look_piece t p (look_from t n a g)
+look_from t n (choice a b c) g = look_from t n a (look_from t n c g) ++ look_from t n b (look_from t n c g)
+look_from t n (group a c) g = look_from t n a (look_from t n c g)
+look_from t n (folds m ws c) g = look_from t m ws [] ++ look_from t n c g
+look_from t n (folding m ws) g = look_from t m ws [] ++ g
+look_from t n (way js a m ws) g = where_there (among js n) (λ u. look_from t 0 a anything) ++ look_from t n ws g
+look_from t n (unless h w a) g = each (λ p. narrowed h false p) (look_from t n a g)
+look_from t n (repeat a z c) g = look_from t n a anything ++ look_from t n z (look_from t n c g)
+look_from t n (turns_of a z) g = look_from t n a anything ++ look_from t n z g
 
-only_one : (j k : ℕ) → j ≡ k → among (k ∷ []) j ≡ true
-only_one j k e = rw e (rw (same_self k) refl)
+abbrev pub look : Table → Items → List (List Place) → List (List Place)
+look t is g = look_from t 0 is g
 
-shows_parts : (g : List Place) (rs : List Record) {ks : List ℕ} {os : List Record} → Touching ks os → Shows g rs →
-    Shows (look_parts ks g) (os ++ rs)
-shows_parts g rs (last_part {k = k} {r = r} e) s =
-    shows_next (record { kinds = Some (k ∷ []); words = None; joint = unclear }) g r rs
-    (record { kinds = only_one r.kind k e; words = refl; joint = refl }) s
-shows_parts g rs (next_part {k = k} {j = j} {ks = ks} {r = r} {rs = os} e i x) s =
-    shows_next (record { kinds = Some (k ∷ []); words = None; joint = sure }) (look_parts (j ∷ ks) g) r (os ++ rs)
-    (record { kinds = only_one r.kind k e; words = refl; joint = i }) (shows_parts g rs x s)
+-- what comes next after a turn that tells this number
+abbrev pub after_way : Table → Items → List (List Place) → ℕ → List (List Place)
+after_way t ws g m = look_from t m ws [] ++ g
 
-sees_parts : (ks : List ℕ) (os : List Record) (g : List (List Place)) (rs : List Record) → Touching ks os → Sees g rs →
-    Sees (behind_parts ks g) (os ++ rs)
-sees_parts ks os [] rs x s = elim s [ ]
-sees_parts ks os (y ∷ g) rs x (this_way s) = this_way (shows_parts y rs x s)
-sees_parts ks os (y ∷ g) rs x (later_way s) = later_way (sees_parts ks os g rs x s)
+-- Each category is followed by what may follow it, and the row by what its conditions ask: what comes next behind these
+-- items, what does behind the row, and what does behind a turn by the number that it tells.
+abbrev pub followed_piece : Table → Piece → List (List Place) → Bool
+followed_piece t (tok kinds words) g = true
+followed_piece t (word k) g = true
+followed_piece t (comp k) g = true
+followed_piece t (cat c) g = says g (t.follows c)
 
-pub piece_seen : (t : Table) {p : Piece} {ks l : List Record} {u : Forest} (g : List (List Place)) → Good t p ks u l →
-    Sees g l → Sees (look_piece t p g) (ks ++ l)
-piece_seen t g (good_token {kinds = kinds} {words = words} {r = r} {l = l} m w) s =
-    sees_behind (token_place kinds words) g r l (record { kinds = m; words = w; joint = refl }) s
-piece_seen t g (good_word {k = k} {r = r} {l = l} e i) s =
-    sees_behind (token_place (IDENT ∷ []) (Some (k ∷ []))) g r l
-    (record { kinds = only_one r.kind IDENT e; words = only_one r.contextual k i; joint = refl }) s
-piece_seen t g (good_operator {k = k} {rs = rs} {l = l} x) s = sees_parts (parts k) rs g l x s
-piece_seen t g (good_category x n p o y) s = x
+abbrev pub no_ways : ℕ → List (List Place)
+no_ways m = []
 
--- a turn that may come is seen among all that may
-there_is : (b : Bool) (f : Unit {0} → List (List Place)) (rs : List Record) → b ≡ true → Sees (f tt) rs →
-    Sees (where_there b f) rs
-there_is true f rs h s = s
-there_is false f rs h s = absurd cc
+abbrev pub followed_in : Table → (ℕ → List (List Place)) → Items → List (List Place) → List (List Place) → Bool
+followed_in t r nil g e = true
+followed_in t r (begin a) g e = followed_in t r a g e
+followed_in t r (close k a) g e = followed_in t r a g e
+followed_in t r (piece p a) g e = followed_piece t p (look t a g) && followed_in t r a g e
+followed_in t r (choice a b c) g e =
+    followed_in t r a (look t c g) e && (followed_in t r b (look t c g) e && followed_in t r c g e)
+followed_in t r (group a c) g e = followed_in t no_ways a (look t c g) (look t c g) && followed_in t r c g e
+followed_in t r (folds n ws c) g e = followed_in t (after_way t ws (look t c g)) ws [] [] && followed_in t r c g e
+followed_in t r (folding n ws) g e = followed_in t (after_way t ws g) ws [] []
+followed_in t r (way j a m ws) g e = followed_in t no_ways a (r m) (r m) && followed_in t r ws g e
+followed_in t r (unless h w a) g e = says e w && followed_in t r a g e
+followed_in t r (repeat a z c) g e =
+    followed_in t no_ways a (look t a anything ++ look t z (look t c g)) (look t a anything ++ look t z (look t c g)) &&
+    (followed_in t no_ways z (look t c g) (look t c g) && followed_in t r c g e)
+followed_in t r (turns_of a z) g e =
+    followed_in t no_ways a (look t a anything ++ look t z g) (look t a anything ++ look t z g) &&
+    followed_in t no_ways z g g
 
-pub way_seen : (t : Table) (n : ℕ) (g : List (List Place)) (rs : List Record) {ws a : Items} {js : List ℕ} {m : ℕ} →
-    HasWay ws js a m → among js n ≡ true → Sees (look t a anything) rs → Sees (look_from t n ws g) rs
-way_seen t n g rs (first_turn {js = js} {m = m} {a = a} {ws = ws}) h s =
-    sees_left (where_there (among js n) (λ u. look_from t 0 a anything)) (look_from t n ws g) rs
-    (there_is (among js n) (λ u. look_from t 0 a anything) rs h s)
-way_seen t n g rs (other_turn {is = is} {b = b} {ws = ws} w) h s =
-    sees_right (where_there (among is n) (λ u. look_from t 0 b anything)) (look_from t n ws g) rs
-    (way_seen t n g rs w h s)
+abbrev pub followed : Table → Items → List (List Place) → List (List Place) → Bool
+followed t is g e = followed_in t no_ways is g e
 
--- so the tokens are seen
-pub seen : (t : Table) {l : List Record} (g : List (List Place)) {is : Items} {x y : Forest} {xs us : List Forest}
-    {ks : List Record} → Made t l is x xs us ks y → Sees g l → Sees (look t is g) (ks ++ l)
-seen t g made_end s = s
-seen t g (made_begin m) s = seen t g m s
-seen t g (made_close m) s = seen t g m s
-seen t {l = l} g (made_piece {p = p} {is = is} {ks = ks} {js = js} x m) s =
-    rw (append_assoc ks js l) (piece_seen t (look t is g) x (seen t g m s))
-seen t {l = l} g (made_first {a = a} {b = b} {is = is} {ks = ks} m) s =
-    sees_left (look t a (look t is g)) (look t b (look t is g)) (ks ++ l)
-    (subst (λ (h : List (List Place)). Sees h (ks ++ l)) (look_appended t a is g) (seen t g m s))
-seen t {l = l} g (made_second {a = a} {b = b} {is = is} {ks = ks} m) s =
-    sees_right (look t a (look t is g)) (look t b (look t is g)) (ks ++ l)
-    (subst (λ (h : List (List Place)). Sees h (ks ++ l)) (look_appended t b is g) (seen t g m s))
-seen t {l = l} g (made_last {a = a} {z = z} {ks = ks} m) s =
-    sees_right (look t a anything) (look t z g) (ks ++ l) (seen t g m s)
-seen t {l = l} g (made_turn {a = a} {z = z} {ks = ks} {js = js} m n) s =
-    rw (append_assoc ks js l)
-    (sees_left (look t a anything) (look t z g) (ks ++ (js ++ l))
-    (seen t anything m (this_way (nothing_known (js ++ l)))))
-seen t {l = l} g (made_repeat {is = is} {ks = ks} {js = js} m n) s =
-    rw (append_assoc ks js l) (seen t (look t is g) m (seen t g n s))
-seen t {l = l} g (made_group {is = is} {ks = ks} {js = js} m n) s =
-    rw (append_assoc ks js l) (seen t (look t is g) m (seen t g n s))
-seen t {l = l} g (made_folded_none {n = n} {ws = ws}) s = sees_right (look_from t n ws []) g l s
-seen t {l = l} g (made_folded_more {n = n} {ws = ws} {ks = ks} {js = js} w i m o) s =
-    rw (append_assoc ks js l)
-    (sees_left (look_from t n ws []) g (ks ++ (js ++ l))
-    (way_seen t n [] (ks ++ (js ++ l)) w i (seen t anything m (this_way (nothing_known (js ++ l))))))
-seen t {l = l} g (made_folds {is = is} {ks = ks} {js = js} m n) s =
-    rw (append_assoc ks js l) (seen t (look t is g) m (seen t g n s))
-seen t {l = l} g (made_guarded {h = h} {is = is} {ks = ks} e m) s =
-    each_sees (λ p. narrowed h false p) (look t is g) (ks ++ l) (seen t g m s)
-    (λ p q. narrowed_sees h false p (ks ++ l) q e)
+-- Whether the tree of a row is one node: nodes alone stand around the first one; then its end comes, with so many nodes
+-- open; then the row begins with it, or with a category whose tree is one.
+abbrev pub only_folds : Items → Bool
+only_folds nil = true
+only_folds (folds n ws is) = only_folds is
+only_folds is = false
+
+abbrev pub in_node : ℕ → ℕ → Items → Bool
+in_node zero n is = false
+in_node (suc d) n nil = false
+in_node (suc d) n (begin is) = in_node d (suc n) is
+in_node (suc d) zero (close k is) = only_folds is
+in_node (suc d) (suc n) (close k is) = in_node d n is
+in_node (suc d) n (piece p is) = in_node d n is
+in_node (suc d) n (choice a b is) = in_node d n (appended a is) && in_node d n (appended b is)
+in_node (suc d) n (repeat a z is) = in_node d n is
+in_node (suc d) n (turns_of a z) = false
+in_node (suc d) n (group a is) = in_node d n is
+in_node (suc d) n (folds m ws is) = in_node d n is
+in_node (suc d) n (folding m ws) = false
+in_node (suc d) n (way j a m ws) = false
+in_node (suc d) n (unless h w is) = in_node d n is
+
+abbrev pub is_node_piece : Table → Piece → Bool
+is_node_piece t (tok kinds words) = false
+is_node_piece t (word k) = false
+is_node_piece t (comp k) = false
+is_node_piece t (cat c) = t.is_node c
+
+abbrev pub is_one_node : Table → ℕ → Items → Bool
+is_one_node t zero is = false
+is_one_node t (suc d) (begin is) = in_node d 0 is
+is_one_node t (suc d) (piece p is) = is_node_piece t p && only_folds is
+is_one_node t (suc d) (unless h w is) = is_one_node t d is
+is_one_node t (suc d) (choice a b is) = is_one_node t d (appended a is) && is_one_node t d (appended b is)
+is_one_node t (suc d) is = false
+
+-- how deep a row may nest
+abbrev pub depth : ℕ
+depth = 60

@@ -3,9 +3,10 @@ use Rattle.std.proofs.Common.{◌≡◌, ℕ, zero, suc, true, List, [], ◌∷�
 use Rattle.rap_events.proofs.Truth.{and_left, and_right}
 use Rattle.rap_events.specs.Forest.{Forest, none, node, ◌⧺◌}
 use Rattle.rap_events.specs.Record.{Record}
-use Rattle.rap_grammar_table.specs.Good.{Good, good_token, good_word, good_operator, good_category, IsNode, Made, made_end, made_begin, made_close, made_piece, made_first, made_second, made_last, made_turn, made_repeat, made_group, made_folded_none, made_folded_more, made_folds, made_guarded}
-use Rattle.rap_grammar_table.specs.Look.{only_folds, in_node, is_node_piece, is_one_node}
-use Rattle.rap_grammar_table.specs.Table.{Table, Piece, Items, nil, folds, appended}
+use Rattle.rap_grammar_table.proofs.Good.{Good, good_token, good_word, good_operator, good_category, IsNode, Made, made_end, made_begin, made_close, made_piece, made_first, made_second, made_last, made_turn, made_repeat, made_group, made_folded_none, made_folded_more, made_folds, made_guarded}
+use Rattle.rap_grammar_table.proofs.Look.{only_folds, in_node, is_node_piece, is_one_node}
+use Rattle.rap_grammar_table.proofs.Hints.{Table}
+use Rattle.rap_grammar_table.specs.Table.{Piece, Items, nil, folds, appended}
 use Rattle.rap_grammar_table.proofs.Values.{folded_node}
 
 with_none : (u : Forest) → IsNode u → IsNode (none ⧺ u)

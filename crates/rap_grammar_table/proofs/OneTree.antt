@@ -12,7 +12,7 @@ use Rattle.rap_grammar_table.specs.Fronts.{any_but}
 use Rattle.rap_grammar_table.specs.Known.{Fits, Sees, place_at, this_way}
 use Rattle.rap_grammar_table.specs.Laws.{HasOneForest, HasOneTree}
 use Rattle.rap_grammar_table.specs.Notation.{of_kinds}
-use Rattle.rap_grammar_table.specs.Rows.{table}
+use Rattle.rap_grammar_table.proofs.Table.{table}
 use Rattle.rap_grammar_table.specs.Tops.{at_end, file_row, items_row, stmts_row}
 use Rattle.rap_grammar_table.proofs.Fronts.{MakesOf, anchored_path_front, arms_front, assoc_items_front, block_front, expr_front, extern_items_front, fields_front, global_path_front, item_front, items_front, last_stmt_front, meta_front, path_front, pattern_front, single_front, stmt_front, token_tree_front, type_front, use_trees_front, values_front, variants_front, visibility_front}
 use Rattle.rap_grammar_table.proofs.Known.{weaker}

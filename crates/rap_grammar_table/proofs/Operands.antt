@@ -1,5 +1,5 @@
 -- The operands of operators are read: computed once. The rows that begin with one are walked with that taken as so.
-use Rattle.std.proofs.Common.{◌≡◌, ℕ, Bool, true, false, ◌==◌, refl, sym, subst, zero, suc, drop, List, [], ◌∷◌}
+use Rattle.std.proofs.Common.{◌≡◌, ℕ, Bool, true, false, ◌==◌, refl, sym, ◌∙◌, subst, zero, suc, drop, List, [], ◌∷◌}
 use Rattle.rap_grammar_scripts.specs.Atom as atom
 use Rattle.rap_grammar_scripts.specs.Attributes as attributes
 use Rattle.rap_grammar_scripts.specs.Expressions as expressions
@@ -15,11 +15,11 @@ use Rattle.rap_grammar_scripts.specs.Words as words
 use Rattle.rap_grammar_scripts.specs.declared.arguments.Restrictions.{Restrictions}
 use Rattle.rap_grammar_scripts.specs.declared.rule.Rule.{Rule}
 use Rattle.rap_grammar_table.specs.Categories.{Operand, OpenAtom}
-use Rattle.rap_grammar_table.specs.Notation.{Entry}
-use Rattle.rap_grammar_table.specs.Refusal.{Verdict, accepted, both, by_bool}
-use Rattle.rap_grammar_table.specs.Rows.{table}
+use Rattle.rap_grammar_table.proofs.Entry.{Entry}
+use Rattle.rap_grammar_table.proofs.Refusal.{Verdict, accepted, both, by_bool}
+use Rattle.rap_grammar_table.proofs.Table.{table}
 use Rattle.rap_grammar_table.specs.Table.{Items}
-use Rattle.rap_grammar_table.specs.Walk.{Vouch, all_accepted, nesting, reads_row_by, reads_rows}
+use Rattle.rap_grammar_table.proofs.Walk.{Vouch, all_accepted, nesting, reads_row_by, reads_rows}
 use Rattle.rap_grammar_table.proofs.Scripts.{scripts}
 use Rattle.rap_grammar_table.proofs.Tests.{tests}
 use Rattle.rap_grammar_table.proofs.Verdict.{both_left, both_right}
@@ -79,6 +79,17 @@ taken forbid e r rows o h w =
     subst
     (λ (v : Verdict). all_with e r rows v (o OpenAtom (lhs (restrict false)) (something ∷ [])) ≡ accepted) (sym h.0)
     (subst (λ (v : Verdict). all_with e r rows accepted v ≡ accepted) (sym h.1) w)
+
+-- where an answer is handed on as it is, what is taken as read is
+abbrev pub Same : Bool → Entry → Rule → List Items → Type 0
+Same forbid e r rows =
+    (o : Vouch) → all_with e r rows (o (Operand forbid) (lhs (restrict forbid)) (something ∷ block ∷ []))
+    (o OpenAtom (lhs (restrict false)) (something ∷ [])) ≡ all_accepted (read_with o e r) rows
+
+pub with_operands : (forbid : Bool) (e : Entry) (r : Rule) (rows : List Items) → Taken e r rows →
+    Same forbid e r rows → all_accepted (read_with (reads_rows nesting table) e r) rows ≡ accepted
+with_operands forbid e r rows w s =
+    let o = reads_rows nesting table in sym (s o) ∙ taken forbid e r rows o (any_so forbid) w
 
 -- the first rows, and the others
 abbrev pub taking : ℕ → List Items → List Items

@@ -4,37 +4,39 @@ use Rattle.rap_events.proofs.Truth.{and_left, and_right}
 use Rattle.rap_grammar_scripts.specs.Script.{something}
 use Rattle.rap_grammar_scripts.specs.declared.rule.Rule.{Rule}
 use Rattle.rap_grammar_scripts.specs.declared.rule.Rule.TheVariants as knot
-use Rattle.rap_grammar_table.specs.ExprRows.{assigned_entry, condition_entry, expr_entry, guard_entry, open_entry, range_end_entry, range_read_by}
-use Rattle.rap_grammar_table.specs.Notation.{Entry}
-use Rattle.rap_grammar_table.specs.Refusal.{accepted}
-use Rattle.rap_grammar_table.specs.Rows.{table}
-use Rattle.rap_grammar_table.specs.Walk.{all_accepted, nesting, reads_rows}
-use Rattle.rap_grammar_table.specs.Ways.{same_flag, some_outcome}
+use Rattle.rap_grammar_table.proofs.ExprHints.{assigned_entry, condition_entry, expr_entry, guard_entry, open_entry, range_end_entry, range_read_by}
+use Rattle.rap_grammar_table.proofs.Entry.{Entry}
+use Rattle.rap_grammar_table.proofs.Refusal.{accepted}
+use Rattle.rap_grammar_table.proofs.Table.{table}
+use Rattle.rap_grammar_table.proofs.Walk.{all_accepted}
+use Rattle.rap_grammar_table.specs.Notation.{same_flag}
+use Rattle.rap_grammar_table.proofs.Ways.{some_outcome}
 use Rattle.rap_grammar_table.proofs.Entries.{is_read, EntryChecked}
 use Rattle.rap_grammar_table.proofs.ExprRows.{expr_rule, if_so, same_rule, read_by_expr}
 use Rattle.rap_grammar_table.proofs.Known.{by_or, same_number}
-use Rattle.rap_grammar_table.proofs.Operands.{climbing, any_so, Taken, With, taken, taking, in_parts}
+use Rattle.rap_grammar_table.proofs.Operands.{climbing, Same, Taken, taking, in_parts, with_operands}
 use Rattle.rap_grammar_table.proofs.Pieces.{same_flags}
 use Rattle.rap_grammar_table.proofs.Scripts.{scripts}
 use Rattle.rap_grammar_table.proofs.Tests.{tests}
 
 -- The first so many rows of a category begin with an operand, and are read where that is; the others are computed.
-abbrev FirstTaken : ℕ → Entry → Rule → Type 0
-FirstTaken n e r = Taken e r (taking n e.rows)
-
-abbrev FirstSo : ℕ → Bool → Entry → Rule → Type 0
-FirstSo n forbid e r = With forbid e r (taking n e.rows)
+record Computed (n : ℕ) (e : Entry) (forbid : Bool) (power : ℕ) : Type 0 where
+  taken : Taken e (expr_rule forbid false power) (taking n e.rows)
+  same : Same forbid e (expr_rule forbid false power) (taking n e.rows)
 
 abbrev OthersSo : ℕ → Entry → Rule → Type 0
 OthersSo n e r = all_accepted (is_read table e r) (drop n e.rows) ≡ accepted
 
-open_4_taken : FirstTaken 1 (open_entry 4) (expr_rule false false 4)
-unfolding climbing
-open_4_taken = refl
+all_read : (n : ℕ) (e : Entry) (forbid : Bool) (power : ℕ) → Computed n e forbid power →
+    OthersSo n e (expr_rule forbid false power) →
+    all_accepted (is_read table e (expr_rule forbid false power)) e.rows ≡ accepted
+all_read n e forbid power c o =
+    let r = expr_rule forbid false power in
+    in_parts (is_read table e r) n e.rows (with_operands forbid e r (taking n e.rows) c.taken c.same) o
 
-open_4_first : FirstSo 1 false (open_entry 4) (expr_rule false false 4)
+open_4_first : Computed 1 (open_entry 4) false 4
 unfolding climbing
-open_4_first o h = taken false (open_entry 4) (expr_rule false false 4) (taking 1 (open_entry 4).rows) o h open_4_taken
+open_4_first = record { taken = refl; same = λ o. refl }
 
 open_4_others : OthersSo 1 (open_entry 4) (expr_rule false false 4)
 unfolding scripts tests
@@ -45,20 +47,15 @@ open_4 =
     record {
       reads =
           read_by_expr table (open_entry 4) false false 4 (something ∷ [])
-          (in_parts (is_read table (open_entry 4) (expr_rule false false 4)) 1 (open_entry 4).rows
-          (open_4_first (reads_rows nesting table) (any_so false)) open_4_others);
+          (all_read 1 (open_entry 4) false 4 open_4_first open_4_others);
       begins = refl;
       followed = refl;
       nodes = λ h. refl;
     }
 
-open_5_taken : FirstTaken 1 (open_entry 5) (expr_rule false false 5)
+open_5_first : Computed 1 (open_entry 5) false 5
 unfolding climbing
-open_5_taken = refl
-
-open_5_first : FirstSo 1 false (open_entry 5) (expr_rule false false 5)
-unfolding climbing
-open_5_first o h = taken false (open_entry 5) (expr_rule false false 5) (taking 1 (open_entry 5).rows) o h open_5_taken
+open_5_first = record { taken = refl; same = λ o. refl }
 
 open_5_others : OthersSo 1 (open_entry 5) (expr_rule false false 5)
 unfolding scripts tests
@@ -69,21 +66,15 @@ open_5 =
     record {
       reads =
           read_by_expr table (open_entry 5) false false 5 (something ∷ [])
-          (in_parts (is_read table (open_entry 5) (expr_rule false false 5)) 1 (open_entry 5).rows
-          (open_5_first (reads_rows nesting table) (any_so false)) open_5_others);
+          (all_read 1 (open_entry 5) false 5 open_5_first open_5_others);
       begins = refl;
       followed = refl;
       nodes = λ h. refl;
     }
 
-expressions_taken : FirstTaken 2 expr_entry (expr_rule false false 1)
+expressions_first : Computed 2 expr_entry false 1
 unfolding climbing
-expressions_taken = refl
-
-expressions_first : FirstSo 2 false expr_entry (expr_rule false false 1)
-unfolding climbing
-expressions_first o h =
-    taken false expr_entry (expr_rule false false 1) (taking 2 expr_entry.rows) o h expressions_taken
+expressions_first = record { taken = refl; same = λ o. refl }
 
 expressions_others : OthersSo 2 expr_entry (expr_rule false false 1)
 unfolding scripts tests
@@ -94,21 +85,15 @@ expressions =
     record {
       reads =
           read_by_expr table expr_entry false false 1 (something ∷ [])
-          (in_parts (is_read table expr_entry (expr_rule false false 1)) 2 expr_entry.rows
-          (expressions_first (reads_rows nesting table) (any_so false)) expressions_others);
+          (all_read 2 expr_entry false 1 expressions_first expressions_others);
       begins = refl;
       followed = refl;
       nodes = λ h. refl;
     }
 
-conditions_taken : FirstTaken 2 condition_entry (expr_rule true false 1)
+conditions_first : Computed 2 condition_entry true 1
 unfolding climbing
-conditions_taken = refl
-
-conditions_first : FirstSo 2 true condition_entry (expr_rule true false 1)
-unfolding climbing
-conditions_first o h =
-    taken true condition_entry (expr_rule true false 1) (taking 2 condition_entry.rows) o h conditions_taken
+conditions_first = record { taken = refl; same = λ o. refl }
 
 conditions_others : OthersSo 2 condition_entry (expr_rule true false 1)
 unfolding scripts tests
@@ -119,21 +104,15 @@ conditions =
     record {
       reads =
           read_by_expr table condition_entry true false 1 (something ∷ [])
-          (in_parts (is_read table condition_entry (expr_rule true false 1)) 2 condition_entry.rows
-          (conditions_first (reads_rows nesting table) (any_so true)) conditions_others);
+          (all_read 2 condition_entry true 1 conditions_first conditions_others);
       begins = refl;
       followed = refl;
       nodes = λ h. refl;
     }
 
-assigneds_taken : FirstTaken 2 assigned_entry (expr_rule true false 1)
+assigneds_first : Computed 2 assigned_entry true 1
 unfolding climbing
-assigneds_taken = refl
-
-assigneds_first : FirstSo 2 true assigned_entry (expr_rule true false 1)
-unfolding climbing
-assigneds_first o h =
-    taken true assigned_entry (expr_rule true false 1) (taking 2 assigned_entry.rows) o h assigneds_taken
+assigneds_first = record { taken = refl; same = λ o. refl }
 
 assigneds_others : OthersSo 2 assigned_entry (expr_rule true false 1)
 unfolding scripts tests
@@ -144,20 +123,15 @@ assigneds =
     record {
       reads =
           read_by_expr table assigned_entry true false 1 (something ∷ [])
-          (in_parts (is_read table assigned_entry (expr_rule true false 1)) 2 assigned_entry.rows
-          (assigneds_first (reads_rows nesting table) (any_so true)) assigneds_others);
+          (all_read 2 assigned_entry true 1 assigneds_first assigneds_others);
       begins = refl;
       followed = refl;
       nodes = λ h. refl;
     }
 
-guards_taken : FirstTaken 1 guard_entry (expr_rule false false 1)
+guards_first : Computed 1 guard_entry false 1
 unfolding climbing
-guards_taken = refl
-
-guards_first : FirstSo 1 false guard_entry (expr_rule false false 1)
-unfolding climbing
-guards_first o h = taken false guard_entry (expr_rule false false 1) (taking 1 guard_entry.rows) o h guards_taken
+guards_first = record { taken = refl; same = λ o. refl }
 
 guards_others : OthersSo 1 guard_entry (expr_rule false false 1)
 unfolding scripts tests
@@ -168,8 +142,7 @@ guards =
     record {
       reads =
           read_by_expr table guard_entry false false 1 (something ∷ [])
-          (in_parts (is_read table guard_entry (expr_rule false false 1)) 1 guard_entry.rows
-          (guards_first (reads_rows nesting table) (any_so false)) guards_others);
+          (all_read 1 guard_entry false 1 guards_first guards_others);
       begins = refl;
       followed = refl;
       nodes = λ h. refl;
@@ -192,67 +165,48 @@ two_powers e forbid a b (knot.ExprBp r bp) h =
     (same_rule forbid false 3 r bp f s (same_number bp 3 k)) b)
 two_powers e forbid a b r h = absurd cc
 
-abbrev RangeTaken : Bool → ℕ → Type 0
-RangeTaken forbid power = Taken (range_end_entry forbid) (expr_rule forbid false power) (range_end_entry forbid).rows
+-- It is all read where operands are.
+record RangeComputed (forbid : Bool) (power : ℕ) : Type 0 where
+  taken : Taken (range_end_entry forbid) (expr_rule forbid false power) (range_end_entry forbid).rows
+  same : Same forbid (range_end_entry forbid) (expr_rule forbid false power) (range_end_entry forbid).rows
 
-abbrev RangeSo : Bool → ℕ → Type 0
-RangeSo forbid power = With forbid (range_end_entry forbid) (expr_rule forbid false power) (range_end_entry forbid).rows
+range_read : (forbid : Bool) (power : ℕ) → RangeComputed forbid power →
+    all_accepted (is_read table (range_end_entry forbid) (expr_rule forbid false power)) (range_end_entry forbid).rows
+    ≡ accepted
+range_read forbid power c =
+    let e = range_end_entry forbid in with_operands forbid e (expr_rule forbid false power) e.rows c.taken c.same
 
-range_ends_2_taken : RangeTaken false 2
+range_2 : RangeComputed false 2
 unfolding climbing
-range_ends_2_taken = refl
+range_2 = record { taken = refl; same = λ o. refl }
 
-range_ends_2_so : RangeSo false 2
+range_3 : RangeComputed false 3
 unfolding climbing
-range_ends_2_so o h =
-    taken false (range_end_entry false) (expr_rule false false 2) (range_end_entry false).rows o h range_ends_2_taken
-
-range_ends_3_taken : RangeTaken false 3
-unfolding climbing
-range_ends_3_taken = refl
-
-range_ends_3_so : RangeSo false 3
-unfolding climbing
-range_ends_3_so o h =
-    taken false (range_end_entry false) (expr_rule false false 3) (range_end_entry false).rows o h range_ends_3_taken
+range_3 = record { taken = refl; same = λ o. refl }
 
 pub range_ends : EntryChecked table (range_end_entry false)
 range_ends =
     record {
       reads =
-          two_powers (range_end_entry false) false (range_ends_2_so (reads_rows nesting table) (any_so false))
-          (range_ends_3_so (reads_rows nesting table) (any_so false));
+          two_powers (range_end_entry false) false (range_read false 2 range_2) (range_read false 3 range_3);
       begins = refl;
       followed = refl;
       nodes = λ h. refl;
     }
 
-range_ends_forbidden_2_taken : RangeTaken true 2
+range_forbidden_2 : RangeComputed true 2
 unfolding climbing
-range_ends_forbidden_2_taken = refl
+range_forbidden_2 = record { taken = refl; same = λ o. refl }
 
-range_ends_forbidden_2_so : RangeSo true 2
+range_forbidden_3 : RangeComputed true 3
 unfolding climbing
-range_ends_forbidden_2_so o h =
-    taken true (range_end_entry true) (expr_rule true false 2) (range_end_entry true).rows o h
-    range_ends_forbidden_2_taken
-
-range_ends_forbidden_3_taken : RangeTaken true 3
-unfolding climbing
-range_ends_forbidden_3_taken = refl
-
-range_ends_forbidden_3_so : RangeSo true 3
-unfolding climbing
-range_ends_forbidden_3_so o h =
-    taken true (range_end_entry true) (expr_rule true false 3) (range_end_entry true).rows o h
-    range_ends_forbidden_3_taken
+range_forbidden_3 = record { taken = refl; same = λ o. refl }
 
 pub range_ends_forbidden : EntryChecked table (range_end_entry true)
 range_ends_forbidden =
     record {
       reads =
-          two_powers (range_end_entry true) true (range_ends_forbidden_2_so (reads_rows nesting table) (any_so true))
-          (range_ends_forbidden_3_so (reads_rows nesting table) (any_so true));
+          two_powers (range_end_entry true) true (range_read true 2 range_forbidden_2) (range_read true 3 range_forbidden_3);
       begins = refl;
       followed = refl;
       nodes = λ h. refl;

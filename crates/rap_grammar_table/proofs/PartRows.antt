@@ -2,10 +2,10 @@
 use Rattle.std.proofs.Common.{◌≡◌, ◌==◌, ◌&&◌, ◌||◌, ℕ, zero, suc, Bool, true, false, not, List, [], ◌∷◌, Option, Some, None, refl, ap}
 use Rattle.rap_base.specs.TokenKind.{L_CURLY}
 use Rattle.rap_events.proofs.Truth.{and_left, and_right}
+use Rattle.rap_grammar_table.specs.Rows.{grammar}
 use Rattle.rap_grammar_table.specs.Again.{category_in, parsed_again}
 use Rattle.rap_grammar_table.specs.Categories.{AssocItems, Attr, Block, ExternItems, ItemList, MatchArms, RecordFields, RecordValues, TokenTree, UseTrees, Variants}
 use Rattle.rap_grammar_table.specs.Known.{among}
-use Rattle.rap_grammar_table.specs.Rows.{table}
 use Rattle.rap_grammar_table.specs.Shapes.{same_kinds}
 use Rattle.rap_grammar_table.specs.Table.{Piece, tok, word, comp, cat, Items, nil, begin, close, piece, choice, repeat, turns_of, group, folds, folding, way, unless, appended, row_at}
 use Rattle.rap_grammar_table.proofs.Known.{same_number}
@@ -142,7 +142,7 @@ behind_begin (Some (begin is)) = is
 behind_begin r = nil
 
 abbrev pub followed_from : ℕ → ℕ → Followed
-followed_from c n = record { category = c; left = behind_begin (row_at n (table.rows c)) }
+followed_from c n = record { category = c; left = behind_begin (row_at n (grammar c)) }
 
 abbrev pub all_followed : List Followed
 all_followed =

@@ -4,16 +4,17 @@ use Rattle.rap_events.specs.Forest.{Forest, none, ◌⧺◌}
 use Rattle.rap_events.specs.Record.{Record}
 use Rattle.rap_grammar_scripts.specs.Script.{Script, Outcome}
 use Rattle.rap_grammar_scripts.specs.declared.rule.Rule.{Rule}
-use Rattle.rap_grammar_table.specs.Built.{Built, At, with_row, at_start, after_category, after_piece}
-use Rattle.rap_grammar_table.specs.Good.{IsNode, IsUnbraced, Made, made_group}
+use Rattle.rap_grammar_table.proofs.Built.{Built, At, with_row, at_start, after_category, after_piece}
+use Rattle.rap_grammar_table.proofs.Good.{IsNode, IsUnbraced, Made, made_group}
 use Rattle.rap_grammar_table.specs.Known.{Place, Sees}
-use Rattle.rap_grammar_table.specs.Look.{look}
-use Rattle.rap_grammar_table.specs.Refusal.{ends_as, in_part, Verdict, accepted, check, or_later}
-use Rattle.rap_grammar_table.specs.Table.{Table, Piece, tok, word, comp, cat, Items, piece, group}
-use Rattle.rap_grammar_table.specs.Walk.{Walked, first_outcomes, outcome_guesses, with_outcomes, reads_rows, category_part, category_first, group_so, parting, at_part, first_try}
-use Rattle.rap_grammar_table.specs.Ways.{expose, ends_so, every_outcome, has_outcome}
+use Rattle.rap_grammar_table.proofs.Look.{look}
+use Rattle.rap_grammar_table.proofs.Refusal.{ends_as, in_part, Verdict, accepted, check, or_later}
+use Rattle.rap_grammar_table.proofs.Hints.{Table}
+use Rattle.rap_grammar_table.specs.Table.{Piece, tok, word, comp, cat, Items, piece, group}
+use Rattle.rap_grammar_table.proofs.Walk.{Walked, first_outcomes, outcome_guesses, with_outcomes, reads_rows, category_part, category_first, group_so, parting, at_part, first_try}
+use Rattle.rap_grammar_table.proofs.Ways.{expose, ends_so, every_outcome, has_outcome}
 use Rattle.rap_grammar_table.proofs.Exposes.{exposed_at, on_items}
-use Rattle.rap_grammar_table.proofs.Look.{seen}
+use Rattle.rap_grammar_table.proofs.LookLaws.{seen}
 use Rattle.rap_grammar_table.proofs.Pieces.{of_every, Front, front_inv, of_category}
 use Rattle.rap_grammar_table.proofs.Values.{value, values, spot_at, AreNodes, Stands, Comes, drop_first, drop_more, nodes_with}
 use Rattle.rap_grammar_table.proofs.Verdict.{check_so, told_so, or_later_so, by_else, by_try, by_try_so}

@@ -12,18 +12,21 @@ use Rattle.rap_grammar_scripts.specs.Knot.{script_of}
 use Rattle.rap_grammar_scripts.specs.Script.{Script, Outcome, nothing, something, block, again, Spot, Runs, finishes, extends, abandons, precedes, finish, extend, abandon, precede, last_tree, last_kind}
 use Rattle.rap_grammar_scripts.specs.Test.{kind_so}
 use Rattle.rap_grammar_scripts.specs.declared.rule.Rule.{Rule}
-use Rattle.rap_grammar_table.specs.Built.{Built, base, empty, over, tree, is_own, joined, At, with_row, with_own, after_category, after_piece}
-use Rattle.rap_grammar_table.specs.Good.{Good, good_token, good_word, good_operator, good_category, IsNode, IsUnbraced, Made, made_piece, Reads, ByRows}
-use Rattle.rap_grammar_table.specs.Known.{Answer, sure, never, unclear, Place, agrees, among, within, is_kind, evaluate_all, Sees, this_way}
-use Rattle.rap_grammar_table.specs.Look.{look_piece, anything}
-use Rattle.rap_grammar_table.specs.Narrow.{Fact, left_by, AreSo}
-use Rattle.rap_grammar_table.specs.Refusal.{Word, obeys, stopped, Verdict, accepted}
-use Rattle.rap_grammar_table.specs.Table.{Table, Piece, tok, word, comp, cat, Items, piece, Touching, last_part, next_part}
-use Rattle.rap_grammar_table.specs.Ways.{expose, front, no_parts, is_sure, has_kind, is_token, is_some, is_bearer, every_outcome, some_outcome, read_piece, read_rule, finish_own, extend_own, abandon_own, precede_own, has_outcome, same_outcome, same_flag}
+use Rattle.rap_grammar_table.proofs.Built.{Built, base, empty, over, tree, is_own, joined, At, with_row, with_own, after_category, after_piece}
+use Rattle.rap_grammar_table.proofs.Good.{Good, good_token, good_word, good_operator, good_category, IsNode, IsUnbraced, Made, made_piece, Reads, ByRows}
+use Rattle.rap_grammar_table.specs.Known.{Answer, sure, never, unclear, Place, agrees, among, within, Sees, this_way, anything}
+use Rattle.rap_grammar_table.proofs.Evaluate.{is_kind, evaluate_all}
+use Rattle.rap_grammar_table.proofs.Look.{look_piece}
+use Rattle.rap_grammar_table.proofs.Narrow.{Fact, left_by, AreSo}
+use Rattle.rap_grammar_table.proofs.Refusal.{Word, obeys, stopped, Verdict, accepted}
+use Rattle.rap_grammar_table.proofs.Hints.{Table}
+use Rattle.rap_grammar_table.specs.Table.{Piece, tok, word, comp, cat, Items, piece, Touching, last_part, next_part}
+use Rattle.rap_grammar_table.proofs.Ways.{expose, front, no_parts, is_sure, has_kind, is_token, is_some, is_bearer, every_outcome, some_outcome, read_piece, read_rule, finish_own, extend_own, abandon_own, precede_own, has_outcome, same_outcome}
+use Rattle.rap_grammar_table.specs.Notation.{same_flag}
 use Rattle.rap_grammar_table.proofs.Exposes.{exposed_at}
 use Rattle.rap_grammar_table.proofs.Known.{agrees_all, nothing_known, by_or, every_so, same_number}
-use Rattle.rap_grammar_table.proofs.Look.{piece_seen, same_self}
-use Rattle.rap_grammar_table.proofs.Narrow.{left_sees}
+use Rattle.rap_grammar_table.proofs.LookLaws.{piece_seen, same_self}
+use Rattle.rap_grammar_table.proofs.NarrowLaws.{left_sees}
 use Rattle.rap_grammar_table.proofs.Values.{tree_of, value, values, spot_at, AreNodes, Stands, Comes, before, drop_first, drop_more, same_spot, joined-value, none-⧺, nodes_with, node_at}
 use Rattle.rap_grammar_table.proofs.Verdict.{both_left, both_right, provided_is, provided_so}
 

@@ -13,14 +13,14 @@ use Rattle.rap_grammar_scripts.specs.Visibility.{starts_restriction, starts_in_r
 use Rattle.rap_grammar_table.specs.Categories.{Ty, PlainTy, Args, Item, Block, Expr, Stmt, Attr, ArgList, Atom, Operand, Closed, lifetime, name}
 use Rattle.rap_grammar_table.specs.ExprRows.{field_part}
 use Rattle.rap_grammar_table.specs.ItemRows.{opt_visibility, restriction}
-use Rattle.rap_grammar_table.specs.Lasts.{ends_plain}
-use Rattle.rap_grammar_table.specs.Look.{followed, is_one_node, depth}
+use Rattle.rap_grammar_table.proofs.Lasts.{ends_plain}
+use Rattle.rap_grammar_table.proofs.Look.{followed, is_one_node, depth}
 use Rattle.rap_grammar_table.specs.Notation.{Part, ◌⊳◌, t, ts, c, node, opt, either, commas, guard, turn, around, row, of_kinds}
-use Rattle.rap_grammar_table.specs.Refusal.{Verdict, accepted, refused}
-use Rattle.rap_grammar_table.specs.Rows.{table}
+use Rattle.rap_grammar_table.proofs.Refusal.{Verdict, accepted, refused}
+use Rattle.rap_grammar_table.proofs.Table.{table}
 use Rattle.rap_grammar_table.specs.StmtRows.{let_else}
 use Rattle.rap_grammar_table.specs.TypeRows.{fn_pointer_param, opt_args}
-use Rattle.rap_grammar_table.specs.Walk.{reads_row}
+use Rattle.rap_grammar_table.proofs.Walk.{reads_row}
 use Rattle.rap_grammar_table.proofs.ExprRows.{expr_rule}
 use Rattle.rap_grammar_table.proofs.Scripts.{scripts}
 use Rattle.rap_grammar_table.proofs.Tests.{tests}

@@ -1,14 +1,13 @@
 -- The table is checked, so what it derives is what the scripts make.
-use Rattle.std.proofs.Common.{List, ℕ}
+use Rattle.std.proofs.Common.{◌≡◌, ◌∙◌, ap, sym, refl, map, List, ℕ}
 use Rattle.rap_events.specs.Forest.{Forest}
 use Rattle.rap_events.specs.Record.{Record}
-use Rattle.rap_grammar_table.specs.Good.{Good}
-use Rattle.rap_grammar_table.specs.Known.{Sees}
-use Rattle.rap_grammar_table.specs.Rows.{table, entries}
-use Rattle.rap_grammar_table.specs.Table.{Derives, one, cat}
+use Rattle.rap_grammar_table.specs.Rows.{grammar, row_lists, rows_at}
+use Rattle.rap_grammar_table.proofs.Table.{table, entries}
 use Rattle.rap_grammar_table.proofs.AttributeRows.{attributes, conditions as cfg_conditions, macro_paths, metas, token_trees, inner_attributes}
 use Rattle.rap_grammar_table.proofs.ClosedRows.{closed_4, closed_5, closed_6, closed_7, closed_8, closed_9, closed_10, closed_11, closed_12, closed_forbidden_4, closed_forbidden_5, closed_forbidden_6, closed_forbidden_7, closed_forbidden_8, closed_forbidden_9, closed_forbidden_10, closed_forbidden_11, closed_forbidden_12, with_cast_4, with_cast_5, with_cast_forbidden_4, with_cast_forbidden_5, with_cast_6, with_cast_7, with_cast_8, with_cast_9, with_cast_10, with_cast_11, with_cast_12, with_cast_forbidden_6, with_cast_forbidden_7, with_cast_forbidden_8, with_cast_forbidden_9, with_cast_forbidden_10, with_cast_forbidden_11, with_cast_forbidden_12}
-use Rattle.rap_grammar_table.proofs.Entries.{none_left, ◌then◌, checked_of}
+use Rattle.rap_grammar_table.proofs.Entries.{none_left, ◌then◌, checked_of, entry_rows}
+use Rattle.rap_grammar_table.proofs.Entry.{Entry, entry_at}
 use Rattle.rap_grammar_table.proofs.ExprRows.{atoms, atoms_forbidden, arg_lists, atom_paths, brace_trees, cast_paths, cast_types, else_prefixed, else_values, name_exprs, open_atoms_so, open_prefixed, operands, operands_forbidden, plain_atoms_so, prefixed, prefixed_forbidden, round_trees, stmt_operands, stmt_prefixed}
 use Rattle.rap_grammar_table.proofs.FrontRows.{arm_lists, assoc_lists, extern_lists, field_lists, front_stmts, item_lists, last_stmts, record_value_rows, use_lists, value_lists, variant_lists}
 use Rattle.rap_grammar_table.proofs.GenericRows.{arguments, generic_params, generics, predicates, wheres}
@@ -19,9 +18,16 @@ use Rattle.rap_grammar_table.proofs.Sound.{Checked}
 use Rattle.rap_grammar_table.proofs.StmtRows.{arms, block_stmts, blocks, empty_stmts, ending_blocks, ifs, last_arms, macro_tails, stmt_blocks, stmt_exprs_so, stmt_lists, stmts, tails, with_blocks_so}
 use Rattle.rap_grammar_table.proofs.TypeRows.{anchor_traits, anchored_paths, bound_lists, bounds, fn_pointer_params, global_paths, param_names, path_args, paths, paths_before_plus, plain_types, symbol_types_so, types, types_before_plus, use_paths, expr_paths, simple_paths, trait_refs}
 
+-- the rows are those of the entries
+lists_are : row_lists ≡ map (λ (e : Entry). e.rows) entries
+lists_are = refl
+
+rows_are : (c : ℕ) → grammar c ≡ (entry_at c entries).rows
+rows_are c = ap (rows_at c) lists_are ∙ sym (entry_rows c entries)
+
 pub checked : Checked table
 checked =
-    checked_of entries
+    checked_of grammar entries rows_are
     (types then plain_types then types_before_plus then anchor_traits then symbol_types_so then paths then
     paths_before_plus then use_paths then global_paths then anchored_paths then path_args then arguments then bounds then
     bound_lists then generic_params then generics then predicates then wheres then param_names then

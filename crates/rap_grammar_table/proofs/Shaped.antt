@@ -5,11 +5,11 @@ use Rattle.rap_events.specs.Forest.{Forest, none, node, leaf, message, split, �
 use Rattle.rap_events.specs.Record.{Record}
 use Rattle.rap_grammar_ends.specs.StandsIn.{NodeAt, last_node, in_last_node, before_node, before_leaf, before_message, before_split}
 use Rattle.rap_grammar_scripts.specs.Test.{Test}
+use Rattle.rap_grammar_table.specs.Rows.{grammar}
 use Rattle.rap_grammar_table.specs.Known.{Place}
-use Rattle.rap_grammar_table.specs.Rows.{table}
 use Rattle.rap_grammar_table.specs.Shapes.{Child, node_child, children_of, Shape, Spells, a_leaf, turns, piece_shape}
 use Rattle.rap_grammar_table.specs.Table.{Piece, Items, nil, begin, close, piece, choice, repeat, turns_of, group, folds, folding, unless, appended, HasWay, Goal, one, rest_of, row_at, Derives, by_row, a_token, a_word, an_operator, ended, begun, closed, put, first_way, second_way, last_turn, one_turn, repeated, grouped, folded_none, folded_more, folded, guarded}
-use Rattle.rap_grammar_table.proofs.Look.{same_self}
+use Rattle.rap_grammar_table.proofs.LookLaws.{same_self}
 use Rattle.rap_grammar_table.proofs.Spells.{children-⧺, spells_last, spells_turn, within, within_so}
 
 -- what is known of the children of a node of a kind
@@ -153,10 +153,10 @@ pub record RowFits (f : ℕ → Shape) (H : OfChildren) (category : ℕ) (row : 
   pub is_within : within whole (f category) ≡ true
 
 abbrev pub RowsFit : (ℕ → Shape) → OfChildren → Type 0
-RowsFit f H = (category n : ℕ) (row : Items) → row_at n (table.rows category) ≡ Some row → RowFits f H category row
+RowsFit f H = (category n : ℕ) (row : Items) → row_at n (grammar category) ≡ Some row → RowFits f H category row
 
 pub shaped : {f : ℕ → Shape} {H : OfChildren} {g : Goal} {ks : List Record} {y : Forest} → RowsFit f H →
-    Derives table g ks y → Claim f H g y
+    Derives grammar g ks y → Claim f H g y
 shaped {f = f} o (by_row {c = c} {row = row} n e d) =
     let r = o c n row e in let q = shaped o d r.whole r.fits tt tt in
     (q.0, within_so r.whole (f c) r.is_within q.1)

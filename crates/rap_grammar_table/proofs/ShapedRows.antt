@@ -3,11 +3,11 @@ use Rattle.std.proofs.Common.{◌≡◌, ◌==◌, ◌&&◌, ◌⊎◌, inl, inr
 use Rattle.rap_events.proofs.Truth.{and_left, and_right, or_left}
 use Rattle.rap_events.specs.Forest.{Forest, none, node, ◌⧺◌}
 use Rattle.rap_grammar_scripts.proofs.Forests.{⧺-assoc}
-use Rattle.rap_grammar_table.specs.Notation.{Entry, entry_at}
+use Rattle.rap_grammar_table.specs.Rows.{rows_at}
 use Rattle.rap_grammar_table.specs.Shapes.{Child, node_child, children_of, Shape, nothing, leaf_of, any_leaf, node_of, a_float, ◌⋅◌, ◌or◌, any_of, Spells, no_child, a_node, by_first, by_second, either_of, after, turns, last_of, with_last, piece_shape, ends, nodes_in, nodes_by, nodes_each, same_shape, is_in, unless_in, with_shape, shapes_among, any_shape}
 use Rattle.rap_grammar_table.specs.Table.{Items, nil, begin, close, piece, choice, repeat, turns_of, group, folds, folding, way, unless, appended, HasWay, first_turn, other_turn, row_at}
 use Rattle.rap_grammar_table.proofs.Known.{by_or}
-use Rattle.rap_grammar_table.proofs.Look.{same_self}
+use Rattle.rap_grammar_table.proofs.LookLaws.{same_self}
 use Rattle.rap_grammar_table.proofs.PartRows.{same_kinds_so}
 use Rattle.rap_grammar_table.proofs.Shaped.{OfChildren, Fits, fits_nil, fits_begin, fits_close, fits_piece, fits_choice, fits_repeat, fits_turns, fits_group, fits_folds, fits_unless, RowFits}
 use Rattle.rap_grammar_table.proofs.Entries.{all_rows, of_all}
@@ -221,22 +221,22 @@ whole_fits f H row o h =
 abbrev pub row_so : (ℕ → Shape) → Shape → Items → Bool
 row_so f s row = part_so f false nothing [] row && within (ends f nothing [] row) s
 
-abbrev pub entries_so : (ℕ → Shape) → (ℕ → Shape) → List Entry → Bool
-entries_so f g [] = true
-entries_so f g (e ∷ es) = all_rows (row_so f (g zero)) e.rows && entries_so f (λ n. g (suc n)) es
+abbrev pub rows_so : (ℕ → Shape) → (ℕ → Shape) → List (List Items) → Bool
+rows_so f g [] = true
+rows_so f g (rs ∷ more) = all_rows (row_so f (g zero)) rs && rows_so f (λ n. g (suc n)) more
 
-entry_so : (f g : ℕ → Shape) (es : List Entry) (c : ℕ) → entries_so f g es ≡ true →
-    all_rows (row_so f (g c)) (entry_at c es).rows ≡ true
-entry_so f g [] c h = refl
-entry_so f g (e ∷ es) zero h = and_left (all_rows (row_so f (g zero)) e.rows) _ h
-entry_so f g (e ∷ es) (suc c) h =
-    entry_so f (λ n. g (suc n)) es c (and_right (all_rows (row_so f (g zero)) e.rows) _ h)
+category_so : (f g : ℕ → Shape) (rows : List (List Items)) (c : ℕ) → rows_so f g rows ≡ true →
+    all_rows (row_so f (g c)) (rows_at c rows) ≡ true
+category_so f g [] c h = refl
+category_so f g (rs ∷ more) zero h = and_left (all_rows (row_so f (g zero)) rs) _ h
+category_so f g (rs ∷ more) (suc c) h =
+    category_so f (λ n. g (suc n)) more c (and_right (all_rows (row_so f (g zero)) rs) _ h)
 
-entry_have : (f : ℕ → Shape) (H : OfChildren) (es : List Entry) (c : ℕ) → AllHave H (nodes_each f es) →
-    AllHave H (nodes_by f (entry_at c es).rows)
-entry_have f H [] c o = tt
-entry_have f H (e ∷ es) zero o = have_left H (nodes_by f e.rows) _ o
-entry_have f H (e ∷ es) (suc c) o = entry_have f H es c (have_right H (nodes_by f e.rows) _ o)
+category_have : (f : ℕ → Shape) (H : OfChildren) (rows : List (List Items)) (c : ℕ) → AllHave H (nodes_each f rows) →
+    AllHave H (nodes_by f (rows_at c rows))
+category_have f H [] c o = tt
+category_have f H (rs ∷ more) zero o = have_left H (nodes_by f rs) _ o
+category_have f H (rs ∷ more) (suc c) o = category_have f H more c (have_right H (nodes_by f rs) _ o)
 
 same_row : (r row : Items) → Some r ≡ Some row → r ≡ row
 same_row r row e = cc
@@ -249,16 +249,15 @@ row_have f H (r ∷ rs) zero row o e =
     (have_left H (nodes_in f nothing [] r) _ o)
 row_have f H (r ∷ rs) (suc n) row o e = row_have f H rs n row (have_right H (nodes_in f nothing [] r) _ o) e
 
--- of any table of entries
-pub rows_fit : (f : ℕ → Shape) (H : OfChildren) (es : List Entry) → AllHave H (nodes_each f es) →
-    entries_so f f es ≡ true → (c n : ℕ) (row : Items) → row_at n (entry_at c es).rows ≡ Some row →
-    RowFits f H c row
-rows_fit f H es o h c n row e =
-    let i = of_all (row_so f (f c)) (entry_at c es).rows n row (entry_so f f es c h) e in
+-- of the rows of any categories
+pub rows_fit : (f : ℕ → Shape) (H : OfChildren) (rows : List (List Items)) → AllHave H (nodes_each f rows) →
+    rows_so f f rows ≡ true → (c n : ℕ) (row : Items) → row_at n (rows_at c rows) ≡ Some row → RowFits f H c row
+rows_fit f H rows o h c n row e =
+    let i = of_all (row_so f (f c)) (rows_at c rows) n row (category_so f f rows c h) e in
     record {
       whole = ends f nothing [] row;
       fits =
-          whole_fits f H row (row_have f H (entry_at c es).rows n row (entry_have f H es c o) e)
+          whole_fits f H row (row_have f H (rows_at c rows) n row (category_have f H rows c o) e)
           (and_left (part_so f false nothing [] row) _ i);
       is_within = and_right (part_so f false nothing [] row) _ i;
     }

@@ -3,17 +3,17 @@ use Rattle.std.proofs.Common.{◌≡◌, ℕ, true, false, List, [], ◌++◌, r
 use Rattle.rap_base.specs.NodeKind.{MACRO_ITEMS, MACRO_STMTS, SOURCE_FILE}
 use Rattle.rap_events.specs.Forest.{Forest, none, node}
 use Rattle.rap_events.specs.Record.{Record}
+use Rattle.rap_grammar_table.specs.Rows.{row_lists}
 use Rattle.rap_grammar_table.specs.Again.{IsTableTree, a_file, of_category, some_items, some_stmts}
-use Rattle.rap_grammar_table.specs.Rows.{entries}
 use Rattle.rap_grammar_table.specs.Shaped.{HaveShapes}
 use Rattle.rap_grammar_table.specs.Shapes.{Shape, nothing, ends, nodes_over, nodes_each, all_nodes, roots, shape_at, shapes_among}
 use Rattle.rap_grammar_table.specs.Table.{Items}
 use Rattle.rap_grammar_table.specs.Tops.{MakesRow, file_row, items_row, stmts_row}
 use Rattle.rap_grammar_table.proofs.Shaped.{AllSo, OfChildren, RowsFit, found, shaped}
-use Rattle.rap_grammar_table.proofs.ShapedRows.{AllHave, HasOne, entries_so, have_all, have_left, have_right, part_so, rows_fit, spells_any, whole_fits}
+use Rattle.rap_grammar_table.proofs.ShapedRows.{AllHave, HasOne, rows_so, have_all, have_left, have_right, part_so, rows_fit, spells_any, whole_fits}
 
-rows_so : entries_so (shape_at roots) (shape_at roots) entries ≡ true
-rows_so = refl
+all_so : rows_so (shape_at roots) (shape_at roots) row_lists ≡ true
+all_so = refl
 
 -- what stands under the node of an entry
 top_so : (f : ℕ → Shape) (H : OfChildren) (kind : ℕ) (row : Items) {ks : List Record} {y : Forest} → RowsFit f H →
@@ -27,11 +27,11 @@ top_so f H kind row {y = y} r o h d =
 abbrev of_kind : ℕ → Items → List (ℕ × Shape)
 of_kind kind row = nodes_over (shape_at roots) kind row
 
-abbrev of_entries : List (ℕ × Shape)
-of_entries = nodes_each (shape_at roots) entries
+abbrev of_rows : List (ℕ × Shape)
+of_rows = nodes_each (shape_at roots) row_lists
 
 abbrev from_stmts : List (ℕ × Shape)
-from_stmts = of_kind MACRO_STMTS stmts_row ++ of_entries
+from_stmts = of_kind MACRO_STMTS stmts_row ++ of_rows
 
 abbrev from_items : List (ℕ × Shape)
 from_items = of_kind MACRO_ITEMS items_row ++ from_stmts
@@ -52,13 +52,13 @@ known_from_stmts : AllHave Known from_stmts
 known_from_stmts = have_right Known (of_kind MACRO_ITEMS items_row) from_stmts known_from_items
 
 known_stmts : AllHave Known (of_kind MACRO_STMTS stmts_row)
-known_stmts = have_left Known (of_kind MACRO_STMTS stmts_row) of_entries known_from_stmts
+known_stmts = have_left Known (of_kind MACRO_STMTS stmts_row) of_rows known_from_stmts
 
-known_entries : AllHave Known of_entries
-known_entries = have_right Known (of_kind MACRO_STMTS stmts_row) of_entries known_from_stmts
+known_rows : AllHave Known of_rows
+known_rows = have_right Known (of_kind MACRO_STMTS stmts_row) of_rows known_from_stmts
 
 table_fits : RowsFit (shape_at roots) Known
-table_fits = rows_fit (shape_at roots) Known entries known_entries rows_so
+table_fits = rows_fit (shape_at roots) Known row_lists known_rows all_so
 
 tree_so : {ks : List Record} {t : Forest} → IsTableTree ks t → AllSo Known t
 tree_so (of_category d) = (shaped table_fits d).0

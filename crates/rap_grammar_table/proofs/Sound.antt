@@ -6,21 +6,23 @@ use Rattle.rap_events.specs.Record.{Record}
 use Rattle.rap_grammar_scripts.specs.Knot.{script_of}
 use Rattle.rap_grammar_scripts.specs.Script.{Script, Outcome}
 use Rattle.rap_grammar_scripts.specs.declared.rule.Rule.{Rule}
-use Rattle.rap_grammar_table.specs.Built.{at_start}
-use Rattle.rap_grammar_table.specs.Good.{Good, good_token, good_word, good_operator, good_category, Made, made_end, made_begin, made_close, made_piece, made_first, made_second, made_last, made_turn, made_repeat, made_group, made_folded_none, made_folded_more, made_folds, made_guarded, ReadsBy}
-use Rattle.rap_grammar_table.specs.Known.{Place, Sees, says}
-use Rattle.rap_grammar_table.specs.Lasts.{ends_plain}
-use Rattle.rap_grammar_table.specs.Look.{look, after_way, no_ways, followed, followed_in, followed_piece, anything, is_one_node, depth}
-use Rattle.rap_grammar_table.specs.Refusal.{ends_as, check, in_part, Verdict, accepted}
-use Rattle.rap_grammar_table.specs.Table.{Table, Piece, tok, word, comp, cat, Items, nil, begin, close, piece, choice, repeat, turns_of, group, folds, folding, way, unless, appended, HasWay, first_turn, other_turn, Goal, one, rest_of, row_at, Derives, by_row, a_token, a_word, an_operator, ended, begun, closed, put, first_way, second_way, last_turn, one_turn, repeated, grouped, folded_none, folded_more, folded, guarded}
-use Rattle.rap_grammar_table.specs.Walk.{walk, reads_row, reads_row_by, reads_rows, nesting, part_so, all_accepted}
-use Rattle.rap_grammar_table.specs.Ways.{has_outcome, some_outcome, ends_so}
+use Rattle.rap_grammar_table.proofs.Built.{at_start}
+use Rattle.rap_grammar_table.proofs.Good.{Good, good_token, good_word, good_operator, good_category, Made, made_end, made_begin, made_close, made_piece, made_first, made_second, made_last, made_turn, made_repeat, made_group, made_folded_none, made_folded_more, made_folds, made_guarded, ReadsBy}
+use Rattle.rap_grammar_table.specs.Known.{Place, Sees, anything}
+use Rattle.rap_grammar_table.proofs.Evaluate.{says}
+use Rattle.rap_grammar_table.proofs.Lasts.{ends_plain}
+use Rattle.rap_grammar_table.proofs.Look.{look, after_way, no_ways, followed, followed_in, followed_piece, is_one_node, depth}
+use Rattle.rap_grammar_table.proofs.Refusal.{ends_as, check, in_part, Verdict, accepted}
+use Rattle.rap_grammar_table.proofs.Hints.{Table}
+use Rattle.rap_grammar_table.specs.Table.{Piece, tok, word, comp, cat, Items, nil, begin, close, piece, choice, repeat, turns_of, group, folds, folding, way, unless, appended, HasWay, first_turn, other_turn, Goal, one, rest_of, row_at, Derives, by_row, a_token, a_word, an_operator, ended, begun, closed, put, first_way, second_way, last_turn, one_turn, repeated, grouped, folded_none, folded_more, folded, guarded}
+use Rattle.rap_grammar_table.proofs.Walk.{walk, reads_row, reads_row_by, reads_rows, nesting, part_so, all_accepted}
+use Rattle.rap_grammar_table.proofs.Ways.{has_outcome, some_outcome, ends_so}
 use Rattle.rap_grammar_table.proofs.Known.{weaker}
-use Rattle.rap_grammar_table.proofs.Lasts.{unbraced}
-use Rattle.rap_grammar_table.proofs.Look.{seen, look_appended}
+use Rattle.rap_grammar_table.proofs.LastsLaws.{unbraced}
+use Rattle.rap_grammar_table.proofs.LookLaws.{seen, look_appended}
 use Rattle.rap_grammar_table.proofs.Nodes.{one_node}
 use Rattle.rap_grammar_table.proofs.Verdict.{check_so, told_so, both_left, both_right}
-use Rattle.rap_grammar_table.proofs.Walk.{walks}
+use Rattle.rap_grammar_table.proofs.WalkLaws.{walks}
 use Rattle.rap_grammar_table.proofs.Wholes.{whole}
 
 -- a script reads a row
@@ -152,7 +154,7 @@ folding_made : {t : Table} {l : List Record} {n : ℕ} {ws : Items} {x : Forest}
 folding_made made_folded_none = made_folded_none
 folding_made (made_folded_more w i m n) = made_folded_more w i m n
 
-pub claim : {t : Table} → Checked t → {g : Goal} {ks : List Record} {y : Forest} → Derives t g ks y → Claim t g ks y
+pub claim : {t : Table} → Checked t → {g : Goal} {ks : List Record} {y : Forest} → Derives t.rows g ks y → Claim t g ks y
 claim {t = t} o (by_row {c = c} {row = row} {ks = ks} {x = y} n e d) = λ l s.
     let q = claim o d (t.follows c) l s (o.followed c n row e) in
     let m = q.made in

@@ -7,13 +7,13 @@ use Rattle.rap_grammar_scripts.specs.declared.arguments.Semicolon.{Semicolon}
 use Rattle.rap_grammar_scripts.specs.declared.arguments.Semicolon.TheVariants as semicolon
 use Rattle.rap_grammar_scripts.specs.declared.rule.Rule.{Rule}
 use Rattle.rap_grammar_scripts.specs.declared.rule.Rule.TheVariants as knot
-use Rattle.rap_grammar_table.specs.Notation.{Entry}
-use Rattle.rap_grammar_table.specs.Refusal.{Verdict, accepted}
-use Rattle.rap_grammar_table.specs.Rows.{table}
-use Rattle.rap_grammar_table.specs.StmtRows.{arm_entry, block_entry, block_stmt_entry, empty_stmt_entry, ending_block_entry, if_entry, last_arm_entry, macro_tail_entry, macro_tail_read_by, stmt_block_entry, stmt_entry, stmt_expr_entry, stmt_follows, stmt_list_entry, stmt_read_by, tail_entry, tail_read_by, with_block_entry}
+use Rattle.rap_grammar_table.proofs.Entry.{Entry}
+use Rattle.rap_grammar_table.proofs.Refusal.{Verdict, accepted}
+use Rattle.rap_grammar_table.proofs.Table.{table}
+use Rattle.rap_grammar_table.proofs.StmtHints.{arm_entry, block_entry, block_stmt_entry, empty_stmt_entry, ending_block_entry, if_entry, last_arm_entry, macro_tail_entry, macro_tail_read_by, stmt_block_entry, stmt_entry, stmt_expr_entry, stmt_follows, stmt_list_entry, stmt_read_by, tail_entry, tail_read_by, with_block_entry}
 use Rattle.rap_grammar_table.specs.Table.{Items}
-use Rattle.rap_grammar_table.specs.Walk.{all_accepted, reads_row}
-use Rattle.rap_grammar_table.specs.Ways.{some_outcome}
+use Rattle.rap_grammar_table.proofs.Walk.{all_accepted, reads_row}
+use Rattle.rap_grammar_table.proofs.Ways.{some_outcome}
 use Rattle.rap_grammar_table.proofs.Entries.{is_read, EntryChecked}
 use Rattle.rap_grammar_table.proofs.ExprRows.{expr_rule, read_by_expr}
 use Rattle.rap_grammar_table.proofs.Operands.{in_parts, taking}

@@ -10,12 +10,13 @@ use Rattle.rap_grammar_scripts.specs.Script.{Script, something, Runs}
 use Rattle.rap_grammar_scripts.specs.ThroughKnot.{expr, meta, pattern, type_}
 use Rattle.rap_grammar_scripts.specs.declared.rule.Rule.{Rule}
 use Rattle.rap_grammar_table.specs.Categories.{Expr, Meta, Pattern, Ty}
-use Rattle.rap_grammar_table.specs.Good.{IsNode}
-use Rattle.rap_grammar_table.specs.Known.{Fits, Sees, says, this_way, place_at}
-use Rattle.rap_grammar_table.specs.Look.{followed}
+use Rattle.rap_grammar_table.proofs.Good.{IsNode}
+use Rattle.rap_grammar_table.specs.Known.{Fits, Sees, this_way, place_at}
+use Rattle.rap_grammar_table.proofs.Evaluate.{says}
+use Rattle.rap_grammar_table.proofs.Look.{followed}
 use Rattle.rap_grammar_table.specs.Notation.{of_kinds}
-use Rattle.rap_grammar_table.specs.Refusal.{accepted}
-use Rattle.rap_grammar_table.specs.Rows.{table}
+use Rattle.rap_grammar_table.proofs.Refusal.{accepted}
+use Rattle.rap_grammar_table.proofs.Table.{table}
 use Rattle.rap_grammar_table.specs.Table.{Items}
 use Rattle.rap_grammar_table.specs.Tops.{Makes, MakesRow, file_row, items_row, stmts_row, at_end}
 use Rattle.rap_grammar_table.proofs.Fronts.{MakesOf, expr_front, meta_front, node_made, pattern_front, reads_so, row_made, type_front}

@@ -7,18 +7,20 @@ use Rattle.rap_grammar_scripts.proofs.Forests.{⧺-assoc}
 use Rattle.rap_grammar_scripts.specs.Knot.{script_of}
 use Rattle.rap_grammar_scripts.specs.Script.{Script, Outcome, nothing, something, block, again, Spot, Runs, turns, stops, loop}
 use Rattle.rap_grammar_scripts.specs.declared.rule.Rule.{Rule}
-use Rattle.rap_grammar_table.specs.Built.{Built, over, tree, under, same, last_same, At, with_row, at_start, fold_start, after_piece, after_fold}
-use Rattle.rap_grammar_table.specs.Good.{IsNode, Made, made_last, made_turn, made_repeat, made_folded_none, made_folded_more, made_folds}
-use Rattle.rap_grammar_table.specs.Known.{Place, Sees}
-use Rattle.rap_grammar_table.specs.Look.{look, after_way, anything}
-use Rattle.rap_grammar_table.specs.Refusal.{goes_on_as, in_turn, after_turns, stopped, Verdict, accepted, both, check, told_with, or_later}
-use Rattle.rap_grammar_table.specs.Refusal as refusal
-use Rattle.rap_grammar_table.specs.Table.{Table, Items, repeat, turns_of, folds, folding, HasWay, first_turn, other_turn}
-use Rattle.rap_grammar_table.specs.Walk.{next_turn, is_repeat, at_repeat, Turn, one_turn, turns_first, turning, most_turns, Flags, flags_in, every_flags, goes_on_in, turn_ends, turn_so, no_turns, first_so, guesses, fold_turn_so, ways_so, then_ends, last_so, goes_on_after, folds_so, repeating}
-use Rattle.rap_grammar_table.specs.Ways.{expose, same_flag}
+use Rattle.rap_grammar_table.proofs.Built.{Built, over, tree, under, same, last_same, At, with_row, at_start, fold_start, after_piece, after_fold}
+use Rattle.rap_grammar_table.proofs.Good.{IsNode, Made, made_last, made_turn, made_repeat, made_folded_none, made_folded_more, made_folds}
+use Rattle.rap_grammar_table.specs.Known.{Place, Sees, anything}
+use Rattle.rap_grammar_table.proofs.Look.{look, after_way}
+use Rattle.rap_grammar_table.proofs.Refusal.{goes_on_as, in_turn, after_turns, stopped, Verdict, accepted, both, check, told_with, or_later}
+use Rattle.rap_grammar_table.proofs.Refusal as refusal
+use Rattle.rap_grammar_table.proofs.Hints.{Table}
+use Rattle.rap_grammar_table.specs.Table.{Items, repeat, turns_of, folds, folding, HasWay, first_turn, other_turn}
+use Rattle.rap_grammar_table.proofs.Walk.{next_turn, is_repeat, at_repeat, Turn, one_turn, turns_first, turning, most_turns, Flags, flags_in, every_flags, goes_on_in, turn_ends, turn_so, no_turns, first_so, guesses, fold_turn_so, ways_so, then_ends, last_so, goes_on_after, folds_so, repeating}
+use Rattle.rap_grammar_table.proofs.Ways.{expose}
+use Rattle.rap_grammar_table.specs.Notation.{same_flag}
 use Rattle.rap_grammar_table.proofs.Exposes.{exposed_at, on_items}
 use Rattle.rap_grammar_table.proofs.Known.{by_or, same_number}
-use Rattle.rap_grammar_table.proofs.Look.{seen}
+use Rattle.rap_grammar_table.proofs.LookLaws.{seen}
 use Rattle.rap_grammar_table.proofs.Pieces.{same_flags}
 use Rattle.rap_grammar_table.proofs.Values.{tree_of, value, values, spot_at, AreNodes, Stands, Comes, before, drop_first, drop_more, same_spot, same_built, own-value, none-⧺, node_at, folded_node}
 use Rattle.rap_grammar_table.proofs.Verdict.{both_left, both_right, check_so, provided_is, provided_so, told_so, or_later_so, by_else, by_either, by_try}

@@ -2,11 +2,11 @@
 use Rattle.std.proofs.Common.{◌≡◌, true, false, refl}
 use Rattle.rap_grammar_scripts.specs.declared.rule.Rule.{Rule}
 use Rattle.rap_grammar_scripts.specs.declared.rule.Rule.TheVariants as knot
-use Rattle.rap_grammar_table.specs.Refusal.{accepted}
-use Rattle.rap_grammar_table.specs.Rows.{table}
-use Rattle.rap_grammar_table.specs.TypeRows.{anchor_entry, anchored_path_entry, args_entry, before_plus_entry, bound_entry, bounds_entry, fn_pointer_params_entry, global_path_entry, param_name_entry, path_before_plus_entry, path_entry, plain_entry, symbol_entry, type_entry, use_path_entry, expr_path_entry, simple_path_entry, trait_ref_entry}
-use Rattle.rap_grammar_table.specs.Walk.{all_accepted}
-use Rattle.rap_grammar_table.specs.Ways.{some_outcome}
+use Rattle.rap_grammar_table.proofs.Refusal.{accepted}
+use Rattle.rap_grammar_table.proofs.Table.{table}
+use Rattle.rap_grammar_table.proofs.TypeHints.{anchor_entry, anchored_path_entry, args_entry, before_plus_entry, bound_entry, bounds_entry, fn_pointer_params_entry, global_path_entry, param_name_entry, path_before_plus_entry, path_entry, plain_entry, symbol_entry, type_entry, use_path_entry, expr_path_entry, simple_path_entry, trait_ref_entry}
+use Rattle.rap_grammar_table.proofs.Walk.{all_accepted}
+use Rattle.rap_grammar_table.proofs.Ways.{some_outcome}
 use Rattle.rap_grammar_table.proofs.Entries.{is_read, EntryChecked}
 use Rattle.rap_grammar_table.proofs.Scripts.{scripts}
 

@@ -7,12 +7,13 @@ use Rattle.rap_grammar_scripts.proofs.Forests.{⧺-assoc}
 use Rattle.rap_grammar_scripts.specs.Knot.{script_of}
 use Rattle.rap_grammar_scripts.specs.Script.{Script, Outcome, Spot, Runs}
 use Rattle.rap_grammar_scripts.specs.declared.rule.Rule.{Rule}
-use Rattle.rap_grammar_table.specs.Built.{Built, base, empty, over, tree, same, is_own, goes_on_from, joined, no_more, At, with_node}
-use Rattle.rap_grammar_table.specs.Good.{IsNode, IsUnbraced, Made, made_folded_none, made_folded_more}
+use Rattle.rap_grammar_table.proofs.Built.{Built, base, empty, over, tree, same, is_own, goes_on_from, joined, no_more, At, with_node}
+use Rattle.rap_grammar_table.proofs.Good.{IsNode, IsUnbraced, Made, made_folded_none, made_folded_more}
 use Rattle.rap_grammar_table.specs.Known.{among}
-use Rattle.rap_grammar_table.specs.Narrow.{AreSo}
-use Rattle.rap_grammar_table.specs.Refusal.{Verdict, accepted}
-use Rattle.rap_grammar_table.specs.Table.{Table, Items, folding}
+use Rattle.rap_grammar_table.proofs.Narrow.{AreSo}
+use Rattle.rap_grammar_table.proofs.Refusal.{Verdict, accepted}
+use Rattle.rap_grammar_table.proofs.Hints.{Table}
+use Rattle.rap_grammar_table.specs.Table.{Items, folding}
 use Rattle.rap_grammar_table.proofs.Known.{by_or, same_number}
 
 -- the trees of the pieces, by their numbers

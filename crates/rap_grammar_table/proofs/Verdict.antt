@@ -1,8 +1,8 @@
 -- A walk that is accepted is accepted in its parts.
 use Rattle.std.proofs.Common.{◌≡◌, Bool, true, false, refl, not, ◌||◌}
-use Rattle.rap_grammar_table.specs.Refusal.{Refusal, Verdict, accepted, refused, both, check, provided, in_case, by_bool, or_else_so, told_with, tells, by_telling, or_earlier, or_later}
-use Rattle.rap_grammar_table.specs.Walk.{first_try}
-use Rattle.rap_grammar_table.specs.Ways.{of_two}
+use Rattle.rap_grammar_table.proofs.Refusal.{Refusal, Verdict, accepted, refused, both, check, provided, in_case, by_bool, or_else_so, told_with, tells, by_telling, or_earlier, or_later}
+use Rattle.rap_grammar_table.proofs.Walk.{first_try}
+use Rattle.rap_grammar_table.proofs.Ways.{of_two}
 
 pub both_left : (v w : Verdict) → both v w ≡ accepted → v ≡ accepted
 both_left accepted w h = refl

@@ -6,12 +6,13 @@ use Rattle.rap_events.specs.Record.{Record}
 use Rattle.rap_grammar_scripts.specs.Knot.{script_of}
 use Rattle.rap_grammar_scripts.specs.Script.{Script, Outcome, Spot, Runs}
 use Rattle.rap_grammar_scripts.specs.declared.rule.Rule.{Rule}
-use Rattle.rap_grammar_table.specs.Built.{Built, same, goes_on_from, no_more, At, with_row}
-use Rattle.rap_grammar_table.specs.Good.{Made, made_end}
+use Rattle.rap_grammar_table.proofs.Built.{Built, same, goes_on_from, no_more, At, with_row}
+use Rattle.rap_grammar_table.proofs.Good.{Made, made_end}
 use Rattle.rap_grammar_table.specs.Known.{Place, Sees}
-use Rattle.rap_grammar_table.specs.Refusal.{left_over, Verdict, accepted, both, check}
-use Rattle.rap_grammar_table.specs.Table.{Table, Items, nil, begin, close, piece, choice, repeat, turns_of, group, folds, folding, way, unless}
-use Rattle.rap_grammar_table.specs.Ways.{is_nil, is_whole, ends_whole}
+use Rattle.rap_grammar_table.proofs.Refusal.{left_over, Verdict, accepted, both, check}
+use Rattle.rap_grammar_table.proofs.Hints.{Table}
+use Rattle.rap_grammar_table.specs.Table.{Items, nil, begin, close, piece, choice, repeat, turns_of, group, folds, folding, way, unless}
+use Rattle.rap_grammar_table.proofs.Ways.{is_nil, is_whole, ends_whole}
 use Rattle.rap_grammar_table.proofs.Exposes.{exposed_at}
 use Rattle.rap_grammar_table.proofs.Values.{value, values, Comes, same_built, base-value, no_values}
 use Rattle.rap_grammar_table.proofs.Verdict.{both_left, both_right, check_so}

@@ -4,8 +4,8 @@
 use Rattle.std.proofs.Common.{Bool, List, [], ◌∷◌, ◌++◌}
 use Rattle.rap_grammar_scripts.specs.Script.{Outcome}
 use Rattle.rap_grammar_scripts.specs.Test.{Test}
-use Rattle.rap_grammar_table.specs.Built.{Built}
-use Rattle.rap_grammar_table.specs.Refusal.{Word, Refusal, stopped, left_over, unequal, ends_as, goes_on_as, too_deep, where_so, in_turn, after_turns, in_part, Verdict, accepted, refused}
+use Rattle.rap_grammar_table.proofs.Built.{Built}
+use Rattle.rap_grammar_table.proofs.Refusal.{Word, Refusal, stopped, left_over, unequal, ends_as, goes_on_as, too_deep, where_so, in_turn, after_turns, in_part, Verdict, accepted, refused}
 use Rattle.rap_grammar_table.specs.Table.{Piece, Items, nil, begin, close, piece, choice, repeat, turns_of, group, folds, folding, way, unless}
 
 -- the pieces that a row may have next

@@ -1,9 +1,9 @@
 -- The categories of the grammar, by their numbers, and what stands in many of their rows.
 use Rattle.std.specs.Prelude.{ℕ, ◌+◌, nat_lt, Bool, true, false, List, [], ◌∷◌, ◌++◌}
 use Rattle.rap_base.specs.NodeKind.{NAME, NAME_REF, LIFETIME, ABI, LITERAL, PREFIX_EXPR, PATH_EXPR, PATH, PATH_SEGMENT, CONST_ARG, MACRO_CALL}
-use Rattle.rap_base.specs.TokenKind.{EOF, IDENT, SEMICOLON, COMMA, COLON, COLON2, EQ, L_PAREN, R_PAREN, L_BRACK, R_BRACK, L_CURLY, R_CURLY, L_ANGLE, R_ANGLE, AMP, STAR, BANG, MINUS, PIPE, PLUS, TILDE, QUESTION, UNDERSCORE, POUND, OUTER_DOC_COMMENT, LIFETIME_IDENT, STRING, TRUE_KW, FALSE_KW, INT_NUMBER, FLOAT_NUMBER, BYTE, CHAR, BYTE_STRING, C_STRING, AS_KW, ASYNC_KW, CONST_KW, CRATE_KW, DYN_KW, EXTERN_KW, FN_KW, FOR_KW, IMPL_KW, SELF_KW, SELF_TYPE_KW, SUPER_KW, UNSAFE_KW, USE_KW, WHERE_KW}
-use Rattle.rap_grammar_table.specs.Known.{Place, behind}
-use Rattle.rap_grammar_table.specs.Notation.{Part, ◌⊳◌, t, ts, names, op, c, node, opt, either, many, fold, of_kinds, of_names, colons}
+use Rattle.rap_base.specs.TokenKind.{EOF, IDENT, SEMICOLON, COMMA, COLON, COLON2, EQ, L_PAREN, R_PAREN, L_BRACK, R_BRACK, L_CURLY, R_CURLY, L_ANGLE, R_ANGLE, AMP, STAR, BANG, MINUS, PIPE, PLUS, TILDE, QUESTION, LIFETIME_IDENT, STRING, TRUE_KW, FALSE_KW, INT_NUMBER, FLOAT_NUMBER, BYTE, CHAR, BYTE_STRING, C_STRING, AS_KW, ASYNC_KW, CONST_KW, CRATE_KW, DYN_KW, EXTERN_KW, FN_KW, FOR_KW, IMPL_KW, SELF_KW, SELF_TYPE_KW, SUPER_KW, UNSAFE_KW, USE_KW, WHERE_KW}
+use Rattle.rap_grammar_table.specs.Known.{Place}
+use Rattle.rap_grammar_table.specs.Notation.{Part, ◌⊳◌, t, ts, names, op, c, node, opt, either, many, fold, of_kinds}
 
 -- A type; one without bounds after it; one before a `+`; the trait after the `as` of a path; a type that begins with no
 -- name.
@@ -370,9 +370,6 @@ attrs = many (c Attr)
 abbrev pub inner_attrs : Part
 inner_attrs = many (c InnerAttr)
 
-abbrev pub attr_heads : List (List Place)
-attr_heads = (of_kinds (POUND ∷ []) ∷ of_kinds (L_BRACK ∷ []) ∷ []) ∷ (of_kinds (OUTER_DOC_COMMENT ∷ []) ∷ []) ∷ []
-
 -- What ends a type or a bound, but for `:` and `+`.
 abbrev pub ends : List ℕ
 ends =
@@ -394,52 +391,7 @@ type_follows = (of_kinds ends ∷ []) ∷ bounds_colon
 abbrev pub plus_follows : List (List Place)
 plus_follows = (of_kinds (PLUS ∷ ends) ∷ []) ∷ bounds_colon
 
--- what may follow a segment's name
-abbrev pub segment_follows : List (List Place)
-segment_follows = plus_follows ++ (of_kinds (FOR_KW ∷ []) ∷ []) ∷ colons ((of_names path_names ∷ []) ∷ [])
-
--- what begins with a name, and what a path in a type begins with
-abbrev pub name_heads : List ℕ → List (List Place)
-name_heads kinds =
-    (of_names kinds ∷ of_kinds (L_ANGLE ∷ L_PAREN ∷ PLUS ∷ ends) ∷ [])
-    ∷ behind (of_names kinds) (bounds_colon ++ colons ((of_kinds (L_ANGLE ∷ L_PAREN ∷ path_names) ∷ []) ∷ []))
-
-abbrev pub global_heads : List (List Place)
-global_heads = colons ((of_names path_names ∷ []) ∷ [])
-
 -- what else a type begins with
 abbrev pub symbol_kinds : List ℕ
 symbol_kinds =
     AMP ∷ L_BRACK ∷ BANG ∷ STAR ∷ L_ANGLE ∷ FN_KW ∷ UNSAFE_KW ∷ EXTERN_KW ∷ FOR_KW ∷ IMPL_KW ∷ DYN_KW ∷ []
-
-abbrev pub other_heads : List (List Place)
-other_heads =
-    (of_kinds symbol_kinds ∷ [])
-    ∷ (of_kinds (UNDERSCORE ∷ []) ∷ of_kinds (PLUS ∷ ends) ∷ [])
-    ∷ (behind (of_kinds (UNDERSCORE ∷ [])) bounds_colon ++ global_heads)
-
-abbrev pub lifetime_head : List Place
-lifetime_head = of_kinds (LIFETIME_IDENT ∷ []) ∷ of_kinds (PLUS ∷ []) ∷ []
-
--- a macro call
-abbrev pub brackets : List ℕ
-brackets = L_PAREN ∷ L_BRACK ∷ L_CURLY ∷ []
-
-abbrev pub macro_head : List Place
-macro_head = of_names path_names ∷ of_kinds (BANG ∷ []) ∷ of_kinds brackets ∷ []
-
-abbrev pub type_heads : List (List Place)
-type_heads = lifetime_head ∷ macro_head ∷ (name_heads path_names ++ other_heads)
-
--- a type in parentheses by what it begins with, and others by theirs
-abbrev pub paren_heads : List (List Place)
-paren_heads =
-    behind (of_kinds (L_PAREN ∷ [])) type_heads ++
-    (of_kinds (L_PAREN ∷ []) ∷ of_kinds (L_PAREN ∷ R_PAREN ∷ []) ∷ []) ∷ []
-
-abbrev pub type_firsts : List (List Place)
-type_firsts = type_heads ++ paren_heads
-
--- the same without bounds
-abbrev pub plain_firsts : List (List Place)
-plain_firsts = macro_head ∷ name_heads path_names ++ other_heads ++ paren_heads

@@ -1,17 +1,12 @@
 -- The rows of generic arguments, generic parameters and `where`.
-use Rattle.std.specs.Prelude.{false, List, [], ◌∷◌, ◌++◌}
+use Rattle.std.specs.Prelude.{List, [], ◌∷◌, ◌++◌}
 use Rattle.rap_base.specs.NodeKind.{ASSOC_TYPE_ARG, CONST_PARAM, GENERIC_PARAM_LIST, LIFETIME_ARG, LIFETIME_PARAM, MACRO_TYPE, PATH_TYPE, TYPE_ARG, TYPE_BOUND, TYPE_BOUND_LIST, TYPE_PARAM, WHERE_CLAUSE, WHERE_PRED}
-use Rattle.rap_base.specs.TokenKind.{IDENT, SEMICOLON, COMMA, COLON, EQ, L_CURLY, L_ANGLE, R_ANGLE, MINUS, PLUS, CONST_KW, FOR_KW, IMPL_KW, LIFETIME_IDENT, WHERE_KW}
+use Rattle.rap_base.specs.TokenKind.{IDENT, SEMICOLON, COMMA, COLON, EQ, L_CURLY, L_ANGLE, R_ANGLE, PLUS, CONST_KW, FOR_KW, IMPL_KW, LIFETIME_IDENT, WHERE_KW}
 use Rattle.rap_grammar_scripts.specs.First.{one_of}
-use Rattle.rap_grammar_scripts.specs.Script.{Outcome, something}
 use Rattle.rap_grammar_scripts.specs.Words.{next_is, next_so}
-use Rattle.rap_grammar_scripts.specs.declared.rule.Rule.{Rule}
-use Rattle.rap_grammar_scripts.specs.declared.rule.Rule.TheVariants as knot
-use Rattle.rap_grammar_table.specs.Categories.{Ty, PlainTy, TyBeforePlus, SymbolTy, GenericParam, Predicate, attrs, attr_heads, macro_call, plain_path, constant, constant_path, lifetime, literals, name, name_ref, path_names, type_firsts}
-use Rattle.rap_grammar_table.specs.Known.{Place, behind}
-use Rattle.rap_grammar_table.specs.Look.{anything}
-use Rattle.rap_grammar_table.specs.Narrow.{each, narrowed}
-use Rattle.rap_grammar_table.specs.Notation.{Part, ◌⊳◌, t, c, node, opt, either, commas, until, alone, guard, guard_before, each_under, Entry, text, read_text, of_kinds}
+use Rattle.rap_grammar_table.specs.Categories.{Ty, PlainTy, TyBeforePlus, SymbolTy, GenericParam, Predicate, attrs, macro_call, plain_path, constant, constant_path, lifetime, name, name_ref, path_names}
+use Rattle.rap_grammar_table.specs.Known.{Place}
+use Rattle.rap_grammar_table.specs.Notation.{Part, ◌⊳◌, t, c, node, opt, either, commas, until, alone, guard, guard_before, each_under, of_kinds}
 use Rattle.rap_grammar_table.specs.TypeRows.{bound_list, bounded, for_binder, named_paths, opt_args}
 
 -- The colon of bounds, and these. There may be none; then what follows them comes behind the colon.
@@ -37,19 +32,10 @@ abbrev pub named_types : List Part
 named_types =
     each_under PATH_TYPE (named_paths PlainTy path_names) ++ bounded_each (named_paths TyBeforePlus path_names)
 
-abbrev pub argument_read_by : Rule → List Outcome
-argument_read_by knot.GenericArg = something ∷ []
-argument_read_by r = []
-
-abbrev pub argument_entry : Entry
-argument_entry =
-    read_text argument_read_by
-    (node LIFETIME_ARG lifetime ∷ constant ∷ node TYPE_ARG (c SymbolTy) ∷ node TYPE_ARG (node MACRO_TYPE (macro_call plain_path)) ∷
-    (assoc_args ++ each_under TYPE_ARG named_types))
-    ((of_kinds (L_CURLY ∷ MINUS ∷ literals) ∷ [])
-    ∷ (of_kinds (LIFETIME_IDENT ∷ []) ∷ of_kinds (COMMA ∷ R_ANGLE ∷ []) ∷ [])
-    ∷ type_firsts)
-    ((of_kinds (COMMA ∷ R_ANGLE ∷ []) ∷ []) ∷ [])
+abbrev pub argument_rows : List Part
+argument_rows =
+    node LIFETIME_ARG lifetime ∷ constant ∷ node TYPE_ARG (c SymbolTy) ∷ node TYPE_ARG (node MACRO_TYPE (macro_call plain_path)) ∷
+    (assoc_args ++ each_under TYPE_ARG named_types)
 
 -- generic parameters
 abbrev pub lifetime_bounds : Part
@@ -65,24 +51,9 @@ param_rows =
     (attrs ⊳ t CONST_KW ⊳ name ⊳ t COLON ⊳ c Ty ⊳ alone (opt (t EQ ⊳ either constant constant_path)))
     ∷ []
 
-abbrev pub param_heads : List (List Place)
-param_heads =
-    (of_kinds (LIFETIME_IDENT ∷ IDENT ∷ []) ∷ of_kinds (COLON ∷ EQ ∷ COMMA ∷ R_ANGLE ∷ []) ∷ [])
-    ∷ (of_kinds (CONST_KW ∷ []) ∷ []) ∷ attr_heads
-
-abbrev pub param_entry : Entry
-param_entry =
-    text param_rows param_heads
-    ((of_kinds (COMMA ∷ R_ANGLE ∷ []) ∷ []) ∷ [])
-
-abbrev pub generics_read_by : Rule → List Outcome
-generics_read_by knot.GenericParamList = something ∷ []
-generics_read_by r = []
-
-abbrev pub generics_entry : Entry
-generics_entry =
-    read_text generics_read_by (node GENERIC_PARAM_LIST (t L_ANGLE ⊳ commas (c GenericParam) ⊳ t R_ANGLE) ∷ [])
-    (behind (of_kinds (L_ANGLE ∷ [])) ((of_kinds (R_ANGLE ∷ []) ∷ []) ∷ param_heads)) anything
+abbrev pub generics_rows : List Part
+generics_rows =
+    node GENERIC_PARAM_LIST (t L_ANGLE ⊳ commas (c GenericParam) ⊳ t R_ANGLE) ∷ []
 
 -- What a `where` says: of a lifetime, or of a type, with parameters after a `for` or without them.
 abbrev pub predicate_rows : List Part
@@ -93,17 +64,6 @@ predicate_rows =
     (guard (next_so (one_of (LIFETIME_IDENT ∷ IMPL_KW ∷ FOR_KW ∷ []))) ⊳ c Ty ⊳ colon_bounds)
     ∷ []
 
-abbrev pub predicate_entry : Entry
-predicate_entry =
-    text predicate_rows ((of_kinds (LIFETIME_IDENT ∷ FOR_KW ∷ []) ∷ []) ∷ each (λ p. narrowed (next_is IMPL_KW) false p) type_firsts)
-    ((of_kinds (COMMA ∷ L_CURLY ∷ SEMICOLON ∷ EQ ∷ []) ∷ []) ∷ [])
-
-abbrev pub where_read_by : Rule → List Outcome
-where_read_by knot.WhereClause = something ∷ []
-where_read_by r = []
-
-abbrev pub where_entry : Entry
-where_entry =
-    read_text where_read_by
-    (node WHERE_CLAUSE (t WHERE_KW ⊳ opt (until (c Predicate ⊳ t COMMA) (c Predicate ⊳ opt (t COMMA)))) ∷ [])
-    ((of_kinds (WHERE_KW ∷ []) ∷ []) ∷ []) ((of_kinds (L_CURLY ∷ SEMICOLON ∷ EQ ∷ []) ∷ []) ∷ [])
+abbrev pub where_rows : List Part
+where_rows =
+    node WHERE_CLAUSE (t WHERE_KW ⊳ opt (until (c Predicate ⊳ t COMMA) (c Predicate ⊳ opt (t COMMA)))) ∷ []

@@ -1,30 +1,18 @@
 -- The rows of items.
-use Rattle.rap_grammar_table.specs.Table.{piece, tok}
-use Rattle.rap_grammar_table.specs.Narrow.{those}
-use Rattle.rap_grammar_table.specs.Known.{Place, behind, unclear}
-use Rattle.rap_grammar_scripts.specs.Traits.{is_impl_params_start}
-use Rattle.rap_grammar_scripts.specs.First.{one_of}
-use Rattle.rap_base.specs.KeywordTable.{contextual_ever}
 use Rattle.std.specs.Prelude.{ℕ, true, List, [], ◌∷◌, ◌++◌, ◌==◌, not, Option, Some, map}
+use Rattle.rap_base.specs.KeywordTable.{contextual_ever}
 use Rattle.rap_base.specs.NodeKind.{CONST, CONST_ARG, ENUM, FN, ITEM_LIST, MODULE, NAME, NAME_REF, PARAM, PARAM_LIST, PATH, PATH_SEGMENT, RECORD_FIELD, RECORD_FIELD_LIST, SELF_PARAM, STATIC, STRUCT, TUPLE_FIELD, TUPLE_FIELD_LIST, TYPE_ALIAS, VARIANT, VARIANT_LIST, VISIBILITY, VISIBILITY_INNER, RENAME, USE, USE_TREE, USE_TREE_LIST, EXTERN_CRATE, EXTERN_BLOCK, EXTERN_ITEM_LIST, ASSOC_ITEM_LIST, MACRO_RULES, MACRO_CALL, UNION, TRAIT, IMPL}
 use Rattle.rap_base.specs.TokenKind.{DOT3, AUTO_KW, DEFAULT_KW, L_BRACK, R_BRACK, EOF, IDENT, SEMICOLON, COMMA, COLON, COLON2, EQ, L_PAREN, R_PAREN, L_CURLY, R_CURLY, AMP, UNDERSCORE, ASYNC_KW, CONST_KW, CRATE_KW, ENUM_KW, EXTERN_KW, FN_KW, IN_KW, MOD_KW, MUT_KW, PUB_KW, SELF_KW, STATIC_KW, STRUCT_KW, SUPER_KW, TYPE_KW, UNSAFE_KW, AS_KW, STAR, BANG, L_ANGLE, UNION_KW, USE_KW, TRAIT_KW, IMPL_KW, FOR_KW, MACRO_RULES_KW, SAFE_KW}
-use Rattle.rap_grammar_scripts.specs.Script.{Outcome, something}
+use Rattle.rap_grammar_scripts.specs.First.{one_of}
 use Rattle.rap_grammar_scripts.specs.Test.{or_else, Test, negated}
-use Rattle.rap_grammar_scripts.specs.Words.{is_at, next_is, next_so}
+use Rattle.rap_grammar_scripts.specs.Traits.{is_impl_params_start}
 use Rattle.rap_grammar_scripts.specs.Visibility.{starts_restriction, starts_in_restriction}
-use Rattle.rap_grammar_scripts.specs.declared.rule.Rule.{Rule}
-use Rattle.rap_grammar_scripts.specs.declared.rule.Rule.TheVariants as knot
+use Rattle.rap_grammar_scripts.specs.Words.{is_at, next_is, next_so}
 use Rattle.rap_grammar_table.specs.AttributeRows.{tree_in}
-use Rattle.rap_grammar_table.specs.Categories.{Ty, PlainTy, Generics, Where, ParamPattern, Expr, Block, Visibility, RecordField, Variant, FnParams, Item, abi, attrs, attr_heads, lifetime, name, Bounds, TraitRef, UseTree, brackets, inner_attrs, name_ref, path_names, plain_segment, use_names}
-use Rattle.rap_grammar_table.specs.Look.{anything}
-use Rattle.rap_grammar_table.specs.Notation.{Part, ◌⊳◌, t, c, node, opt, either, many, commas, alone, guard, Entry, text, read_text, of_kinds, op, weak, fold, colons, of_names}
+use Rattle.rap_grammar_table.specs.Categories.{Ty, PlainTy, Generics, Where, ParamPattern, Expr, Block, Visibility, RecordField, Variant, FnParams, Item, abi, attrs, lifetime, name, Bounds, TraitRef, UseTree, inner_attrs, name_ref, plain_segment, use_names}
+use Rattle.rap_grammar_table.specs.Notation.{those, Part, ◌⊳◌, t, c, node, opt, either, many, commas, alone, guard, op, weak, fold}
+use Rattle.rap_grammar_table.specs.Table.{piece, tok}
 use Rattle.rap_grammar_table.specs.TypeRows.{ret}
-
--- what stands before an item's name
-abbrev pub item_keywords : List ℕ
-item_keywords =
-    STRUCT_KW ∷ MOD_KW ∷ TYPE_KW ∷ CONST_KW ∷ STATIC_KW ∷ ENUM_KW ∷ ASYNC_KW ∷ UNSAFE_KW ∷ EXTERN_KW ∷ FN_KW ∷
-    USE_KW ∷ TRAIT_KW ∷ IMPL_KW ∷ []
 
 -- A path of plain names, as in an import; a visibility, with a restriction to a module or without one.
 abbrev pub use_path : Part
@@ -37,10 +25,9 @@ one_name = node PATH (node PATH_SEGMENT (name_ref (CRATE_KW ∷ SELF_KW ∷ SUPE
 abbrev pub restriction : Part
 restriction = node VISIBILITY_INNER (t L_PAREN ⊳ either one_name (t IN_KW ⊳ use_path) ⊳ t R_PAREN)
 
-abbrev pub visibility_entry : Entry
-visibility_entry =
-    text (node VISIBILITY (t PUB_KW) ∷ node VISIBILITY (t PUB_KW ⊳ restriction) ∷ [])
-    ((of_kinds (PUB_KW ∷ []) ∷ []) ∷ []) ((of_kinds (IDENT ∷ item_keywords) ∷ []) ∷ [])
+abbrev pub visibility_rows : List Part
+visibility_rows =
+    node VISIBILITY (t PUB_KW) ∷ node VISIBILITY (t PUB_KW ⊳ restriction) ∷ []
 
 abbrev pub opt_visibility : Part
 opt_visibility = alone (opt (c Visibility))
@@ -52,10 +39,9 @@ field_visibility =
     (node VISIBILITY (t PUB_KW) ⊳ guard (or_else (starts_restriction true) starts_in_restriction))
 
 -- the fields of a struct or of a variant
-abbrev pub field_entry : Entry
-field_entry =
-    text (node RECORD_FIELD (attrs ⊳ opt_visibility ⊳ name ⊳ t COLON ⊳ c Ty) ∷ [])
-    ((of_kinds (PUB_KW ∷ IDENT ∷ []) ∷ []) ∷ attr_heads) ((of_kinds (COMMA ∷ R_CURLY ∷ []) ∷ []) ∷ [])
+abbrev pub field_rows : List Part
+field_rows =
+    node RECORD_FIELD (attrs ⊳ opt_visibility ⊳ name ⊳ t COLON ⊳ c Ty) ∷ []
 
 abbrev pub record_fields : Part
 record_fields = node RECORD_FIELD_LIST (t L_CURLY ⊳ commas (c RecordField) ⊳ t R_CURLY)
@@ -77,11 +63,9 @@ self_param =
     (attrs ⊳
     either (opt (t MUT_KW) ⊳ self_name ⊳ opt (t COLON ⊳ guard (is_at COLON2) ⊳ c Ty)) (t AMP ⊳ opt lifetime ⊳ opt (t MUT_KW) ⊳ self_name))
 
-abbrev pub fn_params_entry : Entry
-fn_params_entry =
-    text
-    (node PARAM_LIST (t L_PAREN ⊳ opt (either self_param param ⊳ opt (t COMMA ⊳ commas param)) ⊳ t R_PAREN) ∷ [])
-    ((of_kinds (L_PAREN ∷ []) ∷ []) ∷ []) anything
+abbrev pub fn_params_rows : List Part
+fn_params_rows =
+    node PARAM_LIST (t L_PAREN ⊳ opt (either self_param param ⊳ opt (t COMMA ⊳ commas param)) ⊳ t R_PAREN) ∷ []
 
 abbrev pub opt_generics : Part
 opt_generics = alone (opt (c Generics))
@@ -107,12 +91,10 @@ struct_items =
     ∷ node UNION (attrs ⊳ opt_visibility ⊳ weak UNION_KW ⊳ name ⊳ opt_generics ⊳ opt (c Where) ⊳ record_fields)
     ∷ []
 
-abbrev pub variant_entry : Entry
-variant_entry =
-    text
-    (node VARIANT
-    (attrs ⊳ name ⊳ alone (opt (either record_fields tuple_fields)) ⊳ alone (opt (t EQ ⊳ node CONST_ARG (c Expr)))) ∷ [])
-    ((of_kinds (IDENT ∷ []) ∷ []) ∷ attr_heads) ((of_kinds (COMMA ∷ R_CURLY ∷ []) ∷ []) ∷ [])
+abbrev pub variant_rows : List Part
+variant_rows =
+    node VARIANT
+    (attrs ⊳ name ⊳ alone (opt (either record_fields tuple_fields)) ⊳ alone (opt (t EQ ⊳ node CONST_ARG (c Expr)))) ∷ []
 
 abbrev pub variant_list : Part
 variant_list = node VARIANT_LIST (t L_CURLY ⊳ commas (c Variant) ⊳ t R_CURLY)
@@ -150,19 +132,12 @@ rename = node RENAME (t AS_KW ⊳ either (t UNDERSCORE) name)
 abbrev pub use_list : Part
 use_list = node USE_TREE_LIST (t L_CURLY ⊳ commas (c UseTree) ⊳ t R_CURLY)
 
-abbrev pub use_tree_read_by : Rule → List Outcome
-use_tree_read_by knot.UseTree = something ∷ []
-use_tree_read_by r = []
-
-abbrev pub use_tree_entry : Entry
-use_tree_entry =
-    read_text use_tree_read_by
-    (node USE_TREE (opt (op COLON2) ⊳ either (t STAR) use_list)
+abbrev pub use_tree_rows : List Part
+use_tree_rows =
+    node USE_TREE (opt (op COLON2) ⊳ either (t STAR) use_list)
     ∷ node USE_TREE (use_path ⊳ opt rename)
     ∷ node USE_TREE (use_path ⊳ op COLON2 ⊳ either (t STAR) use_list)
-    ∷ [])
-    ((of_kinds (STAR ∷ L_CURLY ∷ use_names) ∷ []) ∷ colons ((of_kinds (STAR ∷ L_CURLY ∷ use_names) ∷ []) ∷ []))
-    ((of_kinds (COMMA ∷ R_CURLY ∷ SEMICOLON ∷ []) ∷ []) ∷ [])
+    ∷ []
 
 abbrev pub import_items : List Part
 import_items =
@@ -218,33 +193,6 @@ macro_items =
     ∷ node MACRO_CALL (attrs ⊳ call_path ⊳ t BANG ⊳ tree_and_end)
     ∷ []
 
-abbrev pub item_kinds : List ℕ
-item_kinds = PUB_KW ∷ item_keywords
-
-abbrev pub word_place : ℕ → Place
-word_place kind = record { kinds = Some (IDENT ∷ []); words = Some (kind ∷ []); joint = unclear }
-
-abbrev pub item_heads : List (List Place)
-item_heads =
-    (of_kinds item_kinds ∷ [])
-    ∷ (word_place UNION_KW ∷ of_kinds (IDENT ∷ []) ∷ [])
-    ∷ (word_place AUTO_KW ∷ of_kinds (TRAIT_KW ∷ []) ∷ [])
-    ∷ (word_place DEFAULT_KW ∷ of_kinds (FN_KW ∷ TYPE_KW ∷ CONST_KW ∷ ASYNC_KW ∷ UNSAFE_KW ∷ []) ∷ [])
-    ∷ (word_place MACRO_RULES_KW ∷ of_kinds (BANG ∷ []) ∷ of_kinds (IDENT ∷ []) ∷ [])
-    ∷ (record { kinds = Some use_names; words = call_words; joint = unclear } ∷ of_kinds (BANG ∷ []) ∷
-    of_kinds brackets ∷ [])
-    ∷ (behind (record { kinds = Some use_names; words = call_words; joint = unclear })
-    (colons ((of_names path_names ∷ []) ∷ [])) ++ attr_heads)
-
-abbrev pub item_read_by : Rule → List Outcome
-item_read_by (knot.ItemOrMacro stops in_extern) = something ∷ []
-item_read_by r = []
-
-abbrev pub item_entry : Entry
-item_entry =
-    read_text item_read_by (struct_items ++ other_items ++ import_items ++ trait_items ++ macro_items) item_heads
-    ((of_kinds (EOF ∷ R_CURLY ∷ []) ∷ []) ∷ item_heads)
-
--- what stands in braces, as a category of its own
-abbrev pub in_braces : Part → Entry
-in_braces a = text (a ∷ []) ((of_kinds (L_CURLY ∷ []) ∷ []) ∷ []) anything
+abbrev pub item_rows : List Part
+item_rows =
+    struct_items ++ other_items ++ import_items ++ trait_items ++ macro_items

@@ -1,7 +1,7 @@
 -- Laws of what the table derives.
 use Rattle.std.specs.Prelude.{◌≡◌, ℕ, List}
-use Rattle.rap_events.specs.Record.{Record}
 use Rattle.rap_events.specs.Forest.{Forest}
+use Rattle.rap_events.specs.Record.{Record}
 use Rattle.rap_grammar_table.specs.Table.{Items}
 use Rattle.rap_grammar_table.specs.Tops.{Makes, MakesRow}
 

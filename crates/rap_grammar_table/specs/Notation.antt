@@ -1,14 +1,19 @@
 -- The notation in which rows are written.
 use Rattle.std.specs.Prelude.{ℕ, zero, suc, Bool, true, false, List, [], ◌∷◌, Option, Some, None, map}
-use Rattle.rap_base.specs.TokenKind.{EOF, IDENT, COMMA, COLON}
 use Rattle.rap_base.specs.KeywordTable.{contextual_ever}
-use Rattle.rap_grammar_scripts.specs.Script.{Outcome}
+use Rattle.rap_base.specs.TokenKind.{EOF, IDENT, COMMA}
 use Rattle.rap_grammar_scripts.specs.Test.{Test}
-use Rattle.rap_grammar_scripts.specs.declared.rule.Rule.{Rule}
-use Rattle.rap_grammar_table.specs.Look.{anything}
-use Rattle.rap_grammar_table.specs.Known.{Place, unclear, sure, behind}
-use Rattle.rap_grammar_table.specs.Table.{tok, word, comp, cat, Items, nil, begin, close, piece, choice, repeat, group, folds, way, unless, Table}
-use Rattle.rap_grammar_table.specs.Walk.{outcome_guesses}
+use Rattle.rap_grammar_table.specs.Known.{anything, Place, unclear}
+use Rattle.rap_grammar_table.specs.Table.{tok, word, comp, cat, Items, nil, begin, close, piece, choice, repeat, group, folds, way, unless}
+
+-- those of which this holds
+abbrev pub kept : Bool → ℕ → List ℕ → List ℕ
+kept true k ks = k ∷ ks
+kept false k ks = ks
+
+abbrev pub those : (ℕ → Bool) → List ℕ → List ℕ
+those f [] = []
+those f (k ∷ ks) = kept (f k) k (those f ks)
 
 -- a part of a row, before the rest of it
 abbrev pub Part : Type 0
@@ -111,88 +116,13 @@ each_under kind (a ∷ more) = node kind a ∷ each_under kind more
 abbrev pub of_kinds : List ℕ → Place
 of_kinds kinds = record { kinds = Some kinds; words = None; joint = unclear }
 
-abbrev pub of_names : List ℕ → Place
-of_names kinds = record { kinds = Some kinds; words = name_words; joint = unclear }
-
 -- the numbers from 1 to this one, the largest first
 abbrev pub up_to : ℕ → List ℕ
 up_to zero = []
 up_to (suc n) = suc n ∷ up_to n
 
--- one that touches the next token
-abbrev pub touching : ℕ → Place
-touching kind = record { kinds = Some (kind ∷ []); words = None; joint = sure }
-
--- What a table says of a category: its rows, what its tokens begin with, what may follow it, whether its tree is one
--- node, whether its last token is never a `}`, whether it has its rows alone, the outcomes of a script that reads it then, and those with which a rule reads it.
-pub record Entry : Type 0 where
-  pub rows : List Items
-  pub firsts : List (List Place)
-  pub follows : List (List Place)
-  pub is_node : Bool
-  pub unbraced : Bool
-  pub by_rows : Bool
-  pub ends : List (List Outcome)
-  pub read_by : Rule → List Outcome
-
-abbrev pub no_entry : Entry
-no_entry =
-    record {
-      rows = [];
-      firsts = [];
-      follows = [];
-      is_node = false;
-      unbraced = false;
-      by_rows = false;
-      ends = [];
-      read_by = λ r. [];
-    }
-
-abbrev pub entry_at : ℕ → List Entry → Entry
-entry_at n [] = no_entry
-entry_at zero (e ∷ es) = e
-entry_at (suc n) (e ∷ es) = entry_at n es
-
-abbrev pub table_of : List Entry → Table
-table_of es =
-    record {
-      rows = λ c. (entry_at c es).rows;
-      firsts = λ c. (entry_at c es).firsts;
-      follows = λ c. (entry_at c es).follows;
-      is_node = λ c. (entry_at c es).is_node;
-      unbraced = λ c. (entry_at c es).unbraced;
-      by_rows = λ c. (entry_at c es).by_rows;
-      ends = λ c. (entry_at c es).ends;
-      reads = λ r c. (entry_at c es).read_by r;
-    }
-
--- A category whose trees are nodes, which has its rows alone: one that no rule reads, and one that a rule reads.
-abbrev pub text : List Part → List (List Place) → List (List Place) → Entry
-text rows firsts follows =
-    record {
-      rows = rows_of rows;
-      firsts = firsts;
-      follows = follows;
-      is_node = true;
-      unbraced = false;
-      by_rows = true;
-      ends = outcome_guesses;
-      read_by = λ r. [];
-    }
-
-abbrev pub read_text : (Rule → List Outcome) → List Part → List (List Place) → List (List Place) → Entry
-read_text read_by rows firsts follows =
-    record {
-      rows = rows_of rows;
-      firsts = firsts;
-      follows = follows;
-      is_node = true;
-      unbraced = false;
-      by_rows = true;
-      ends = outcome_guesses;
-      read_by = read_by;
-    }
-
--- the tokens of `::`, and then such a token
-abbrev pub colons : List (List Place) → List (List Place)
-colons g = behind (touching COLON) (behind (of_kinds (COLON ∷ [])) g)
+-- the same of two
+abbrev pub same_flag : Bool → Bool → Bool
+same_flag true b = b
+same_flag false true = false
+same_flag false false = true

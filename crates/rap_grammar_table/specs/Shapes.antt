@@ -2,9 +2,8 @@
 use Rattle.std.specs.Prelude.{◌==◌, ◌&&◌, ◌||◌, ℕ, zero, suc, Bool, true, false, List, [], ◌∷◌, ◌++◌, ◌≡◌}
 use Rattle.rap_base.specs.NodeKind.{MACRO_ITEMS, MACRO_STMTS, SOURCE_FILE}
 use Rattle.rap_events.specs.Forest.{Forest, none, node, leaf, message, split}
+use Rattle.rap_grammar_table.specs.Rows.{row_lists}
 use Rattle.rap_grammar_table.specs.Known.{among}
-use Rattle.rap_grammar_table.specs.Notation.{Entry}
-use Rattle.rap_grammar_table.specs.Rows.{entries}
 use Rattle.rap_grammar_table.specs.Table.{Piece, tok, word, comp, cat, Items, nil, begin, close, piece, choice, repeat, turns_of, group, folds, folding, way, unless}
 use Rattle.rap_grammar_table.specs.Tops.{file_row, items_row, stmts_row}
 
@@ -121,16 +120,16 @@ shape_at [] n = node_of []
 shape_at (s ∷ ss) zero = s
 shape_at (s ∷ ss) (suc n) = shape_at ss n
 
-abbrev pub roots_each : (ℕ → Shape) → List Entry → List Shape
+abbrev pub roots_each : (ℕ → Shape) → List (List Items) → List Shape
 roots_each f [] = []
-roots_each f (e ∷ es) = roots_by f e.rows ∷ roots_each f es
+roots_each f (rs ∷ more) = roots_by f rs ∷ roots_each f more
 
-abbrev pub roots_after : ℕ → List Entry → List Shape
-roots_after zero es = []
-roots_after (suc n) es = roots_each (shape_at (roots_after n es)) es
+abbrev pub roots_after : ℕ → List (List Items) → List Shape
+roots_after zero rows = []
+roots_after (suc n) rows = roots_each (shape_at (roots_after n rows)) rows
 
 abbrev pub roots : List Shape
-roots = roots_after 6 entries
+roots = roots_after 6 row_lists
 
 -- What stands in the newest open node at the end of a part of a row, where this stands before the part, and these in
 -- the older ones. Of turns as above.
@@ -176,9 +175,9 @@ abbrev pub nodes_by : (ℕ → Shape) → List Items → List (ℕ × Shape)
 nodes_by f [] = []
 nodes_by f (r ∷ rs) = nodes_in f nothing [] r ++ nodes_by f rs
 
-abbrev pub nodes_each : (ℕ → Shape) → List Entry → List (ℕ × Shape)
+abbrev pub nodes_each : (ℕ → Shape) → List (List Items) → List (ℕ × Shape)
 nodes_each f [] = []
-nodes_each f (e ∷ es) = nodes_by f e.rows ++ nodes_each f es
+nodes_each f (rs ∷ more) = nodes_by f rs ++ nodes_each f more
 
 abbrev pub nodes_over : (ℕ → Shape) → ℕ → Items → List (ℕ × Shape)
 nodes_over f kind row = (kind, ends f nothing [] row) ∷ nodes_in f nothing [] row
@@ -186,7 +185,7 @@ nodes_over f kind row = (kind, ends f nothing [] row) ∷ nodes_in f nothing [] 
 abbrev pub nodes_of_all : (ℕ → Shape) → List (ℕ × Shape)
 nodes_of_all f =
     nodes_over f SOURCE_FILE file_row ++
-    (nodes_over f MACRO_ITEMS items_row ++ (nodes_over f MACRO_STMTS stmts_row ++ nodes_each f entries))
+    (nodes_over f MACRO_ITEMS items_row ++ (nodes_over f MACRO_STMTS stmts_row ++ nodes_each f row_lists))
 
 abbrev pub all_nodes : List (ℕ × Shape)
 all_nodes = nodes_of_all (shape_at roots)

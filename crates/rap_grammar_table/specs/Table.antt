@@ -1,12 +1,10 @@
 -- A grammar as a table, and what it derives.
-use Rattle.std.specs.Prelude.{◌≡◌, ℕ, zero, suc, Bool, true, false, List, [], ◌∷◌, ◌++◌, Option, Some, None}
+use Rattle.std.specs.Prelude.{◌≡◌, ℕ, zero, suc, true, false, List, [], ◌∷◌, ◌++◌, Option, Some, None}
 use Rattle.rap_base.specs.TokenKind.{IDENT}
 use Rattle.rap_events.specs.Composite.{parts, width}
 use Rattle.rap_events.specs.Forest.{Forest, none, node, leaf, ◌⧺◌}
 use Rattle.rap_events.specs.Record.{Record}
-use Rattle.rap_grammar_scripts.specs.Script.{Outcome}
 use Rattle.rap_grammar_scripts.specs.Test.{Test, holds}
-use Rattle.rap_grammar_scripts.specs.declared.rule.Rule.{Rule}
 use Rattle.rap_grammar_table.specs.Known.{Place, among, within, Sees}
 
 -- A token of one of these kinds that is read as one of these words, or as any where there are none; an identifier that
@@ -51,20 +49,6 @@ appended (folding n x) b = folds n x b
 appended (way j x m a) b = way j x m (appended a b)
 appended (unless h w a) b = unless h w (appended a b)
 
--- The rows of each category; what its tokens begin with; what may follow it; whether its tree is always one node, and
--- whether its last token is never a `}`; whether it has its rows alone, and nothing beside the table, so that a script
--- that no rule names may read it, and the outcomes with which such a script does, to be tried in turn; and those with
--- which a rule reads it, none where it does not.
-pub record Table : Type 0 where
-  pub rows : ℕ → List Items
-  pub firsts : ℕ → List (List Place)
-  pub follows : ℕ → List (List Place)
-  pub is_node : ℕ → Bool
-  pub unbraced : ℕ → Bool
-  pub by_rows : ℕ → Bool
-  pub ends : ℕ → List (List Outcome)
-  pub reads : Rule → ℕ → List Outcome
-
 abbrev pub row_at : ℕ → List Items → Option Items
 row_at n [] = None
 row_at zero (r ∷ rs) = Some r
@@ -87,48 +71,52 @@ pub data Touching : List ℕ → List Record → Type 0 where
   next_part : {k j : ℕ} {ks : List ℕ} {r : Record} {rs : List Record} → r.kind ≡ k → r.joint ≡ true →
       Touching (j ∷ ks) rs → Touching (k ∷ j ∷ ks) (r ∷ rs)
 
+-- a grammar: the rows of each category
+abbrev pub Grammar : Type 0
+Grammar = ℕ → List Items
+
 -- the tokens of a piece, or of the rest of a row, and its tree
-pub data Derives (t : Table) : Goal → List Record → Forest → Type 0 where
+pub data Derives (g : Grammar) : Goal → List Record → Forest → Type 0 where
   by_row : {c : ℕ} {row : Items} {ks : List Record} {x : Forest} (n : ℕ) →
-      row_at n (t.rows c) ≡ Some row → Derives t (rest_of row none []) ks x → Derives t (one (cat c)) ks x
+      row_at n (g c) ≡ Some row → Derives g (rest_of row none []) ks x → Derives g (one (cat c)) ks x
   a_token : {kinds : List ℕ} {words : Option (List ℕ)} {r : Record} → among kinds r.kind ≡ true →
-      within words r.contextual ≡ true → Derives t (one (tok kinds words)) (r ∷ []) (leaf none r.kind 1)
+      within words r.contextual ≡ true → Derives g (one (tok kinds words)) (r ∷ []) (leaf none r.kind 1)
   a_word : {k : ℕ} {r : Record} → r.kind ≡ IDENT → r.contextual ≡ k →
-      Derives t (one (word k)) (r ∷ []) (leaf none k 1)
+      Derives g (one (word k)) (r ∷ []) (leaf none k 1)
   an_operator : {k : ℕ} {rs : List Record} → Touching (parts k) rs →
-      Derives t (one (comp k)) rs (leaf none k (width k))
-  ended : {x : Forest} → Derives t (rest_of nil x []) [] x
+      Derives g (one (comp k)) rs (leaf none k (width k))
+  ended : {x : Forest} → Derives g (rest_of nil x []) [] x
   begun : {is : Items} {x y : Forest} {xs : List Forest} {ks : List Record} →
-      Derives t (rest_of is none (x ∷ xs)) ks y → Derives t (rest_of (begin is) x xs) ks y
+      Derives g (rest_of is none (x ∷ xs)) ks y → Derives g (rest_of (begin is) x xs) ks y
   closed : {k : ℕ} {is : Items} {x y z : Forest} {xs : List Forest} {ks : List Record} →
-      Derives t (rest_of is (node z k x) xs) ks y → Derives t (rest_of (close k is) x (z ∷ xs)) ks y
+      Derives g (rest_of is (node z k x) xs) ks y → Derives g (rest_of (close k is) x (z ∷ xs)) ks y
   put : {p : Piece} {is : Items} {x y u : Forest} {xs : List Forest} {ks js : List Record} →
-      Derives t (one p) ks u → Derives t (rest_of is (x ⧺ u) xs) js y →
-      Derives t (rest_of (piece p is) x xs) (ks ++ js) y
+      Derives g (one p) ks u → Derives g (rest_of is (x ⧺ u) xs) js y →
+      Derives g (rest_of (piece p is) x xs) (ks ++ js) y
   first_way : {a b is : Items} {x y : Forest} {xs : List Forest} {ks : List Record} →
-      Derives t (rest_of (appended a is) x xs) ks y → Derives t (rest_of (choice a b is) x xs) ks y
+      Derives g (rest_of (appended a is) x xs) ks y → Derives g (rest_of (choice a b is) x xs) ks y
   second_way : {a b is : Items} {x y : Forest} {xs : List Forest} {ks : List Record} →
-      Derives t (rest_of (appended b is) x xs) ks y → Derives t (rest_of (choice a b is) x xs) ks y
+      Derives g (rest_of (appended b is) x xs) ks y → Derives g (rest_of (choice a b is) x xs) ks y
   last_turn : {a z : Items} {x : Forest} {ks : List Record} →
-      Derives t (rest_of z none []) ks x → Derives t (rest_of (turns_of a z) none []) ks x
+      Derives g (rest_of z none []) ks x → Derives g (rest_of (turns_of a z) none []) ks x
   one_turn : {a z : Items} {x y : Forest} {ks js : List Record} →
-      Derives t (rest_of a none []) ks x → Derives t (rest_of (turns_of a z) none []) js y →
-      Derives t (rest_of (turns_of a z) none []) (ks ++ js) (x ⧺ y)
+      Derives g (rest_of a none []) ks x → Derives g (rest_of (turns_of a z) none []) js y →
+      Derives g (rest_of (turns_of a z) none []) (ks ++ js) (x ⧺ y)
   repeated : {a z is : Items} {x y u : Forest} {xs : List Forest} {ks js : List Record} →
-      Derives t (rest_of (turns_of a z) none []) ks u → Derives t (rest_of is (x ⧺ u) xs) js y →
-      Derives t (rest_of (repeat a z is) x xs) (ks ++ js) y
+      Derives g (rest_of (turns_of a z) none []) ks u → Derives g (rest_of is (x ⧺ u) xs) js y →
+      Derives g (rest_of (repeat a z is) x xs) (ks ++ js) y
   grouped : {a is : Items} {x y u : Forest} {xs : List Forest} {ks js : List Record} →
-      Derives t (rest_of a none []) ks u → Derives t (rest_of is (x ⧺ u) xs) js y →
-      Derives t (rest_of (group a is) x xs) (ks ++ js) y
-  folded_none : {n : ℕ} {ws : Items} {x : Forest} → Derives t (rest_of (folding n ws) x []) [] x
+      Derives g (rest_of a none []) ks u → Derives g (rest_of is (x ⧺ u) xs) js y →
+      Derives g (rest_of (group a is) x xs) (ks ++ js) y
+  folded_none : {n : ℕ} {ws : Items} {x : Forest} → Derives g (rest_of (folding n ws) x []) [] x
   folded_more : {is : List ℕ} {n m k : ℕ} {ws a : Items} {x c u : Forest} {ks js : List Record} →
-      HasWay ws is a m → among is n ≡ true → Derives t (rest_of a x (none ∷ [])) ks (node none k c) →
-      Derives t (rest_of (folding m ws) (node none k c) []) js u →
-      Derives t (rest_of (folding n ws) x []) (ks ++ js) u
+      HasWay ws is a m → among is n ≡ true → Derives g (rest_of a x (none ∷ [])) ks (node none k c) →
+      Derives g (rest_of (folding m ws) (node none k c) []) js u →
+      Derives g (rest_of (folding n ws) x []) (ks ++ js) u
   folded : {n j : ℕ} {ws is : Items} {c x y u : Forest} {xs : List Forest} {ks js : List Record} →
-      Derives t (rest_of (folding n ws) (node none j c) []) ks u →
-      Derives t (rest_of is (x ⧺ u) xs) js y →
-      Derives t (rest_of (folds n ws is) (node x j c) xs) (ks ++ js) y
+      Derives g (rest_of (folding n ws) (node none j c) []) ks u →
+      Derives g (rest_of is (x ⧺ u) xs) js y →
+      Derives g (rest_of (folds n ws is) (node x j c) xs) (ks ++ js) y
   guarded : {h : Test} {w : List (List Place)} {is : Items} {ks : List Record} {x y : Forest} {xs : List Forest} →
-      ((l : List Record) → Sees w l → holds h (ks ++ l) ≡ false) → Derives t (rest_of is x xs) ks y →
-      Derives t (rest_of (unless h w is) x xs) ks y
+      ((l : List Record) → Sees w l → holds h (ks ++ l) ≡ false) → Derives g (rest_of is x xs) ks y →
+      Derives g (rest_of (unless h w is) x xs) ks y

@@ -6,16 +6,16 @@ use Rattle.rap_events.specs.Record.{Record}
 use Rattle.rap_grammar_table.specs.Categories.{BlockStmt, EmptyStmt, Item, MacroTail, Stmt, inner_attrs}
 use Rattle.rap_grammar_table.specs.Known.{Place}
 use Rattle.rap_grammar_table.specs.Notation.{◌⊳◌, t, c, either, opt, many, until, row, of_kinds}
-use Rattle.rap_grammar_table.specs.Rows.{table}
+use Rattle.rap_grammar_table.specs.Rows.{grammar}
 use Rattle.rap_grammar_table.specs.Table.{Items, Derives, one, rest_of, cat}
 
 -- a category's tokens, and their tree
 abbrev pub Makes : ℕ → List Record → Forest → Type 0
-Makes category tokens tree = Derives table (one (cat category)) tokens tree
+Makes category tokens tree = Derives grammar (one (cat category)) tokens tree
 
 -- the tokens of a row that stands alone, and the forest of its trees
 abbrev pub MakesRow : Items → List Record → Forest → Type 0
-MakesRow is tokens forest = Derives table (rest_of is none []) tokens forest
+MakesRow is tokens forest = Derives grammar (rest_of is none []) tokens forest
 
 -- Items, behind attributes of what they stand in: so a macro may expand. In a file a shebang and frontmatter may stand
 -- before them.

@@ -1,20 +1,14 @@
 -- The rows of types, of the paths in them, and of bounds.
-use Rattle.std.specs.Prelude.{◌==◌, not, Some, None, ℕ, true, false, List, [], ◌∷◌, ◌++◌}
+use Rattle.std.specs.Prelude.{ℕ, List, [], ◌∷◌, ◌++◌}
 use Rattle.rap_base.specs.NodeKind.{ARRAY_TYPE, CONST_ARG, DYN_TRAIT_TYPE, FN_PTR_TYPE, FOR_BINDER, FOR_TYPE, GENERIC_ARG_LIST, IDENT_PAT, IMPL_TRAIT_TYPE, INFER_TYPE, MACRO_TYPE, NEVER_TYPE, PARAM, PARAM_LIST, PARENTHESIZED_ARG_LIST, PAREN_TYPE, PATH, PATH_SEGMENT, PATH_TYPE, PTR_TYPE, REF_TYPE, RETURN_TYPE_SYNTAX, RET_TYPE, SLICE_TYPE, TUPLE_TYPE, TYPE_ANCHOR, TYPE_ARG, TYPE_BOUND, TYPE_BOUND_LIST, USE_BOUND_GENERIC_ARGS, WILDCARD_PAT}
-use Rattle.rap_base.specs.TokenKind.{IDENT, SEMICOLON, COMMA, COLON, COLON2, DOT, DOT2, DOT3, L_PAREN, R_PAREN, L_BRACK, R_BRACK, L_CURLY, L_ANGLE, R_ANGLE, AMP, STAR, BANG, MINUS, PLUS, TILDE, QUESTION, UNDERSCORE, THIN_ARROW, LIFETIME_IDENT, AS_KW, ASYNC_KW, CONST_KW, DYN_KW, FN_KW, FOR_KW, IMPL_KW, MUT_KW, SELF_TYPE_KW, UNSAFE_KW, USE_KW, EOF, SHEBANG}
+use Rattle.rap_base.specs.TokenKind.{IDENT, SEMICOLON, COMMA, COLON, COLON2, DOT2, DOT3, L_PAREN, R_PAREN, L_BRACK, R_BRACK, L_ANGLE, R_ANGLE, AMP, STAR, BANG, PLUS, TILDE, QUESTION, UNDERSCORE, THIN_ARROW, AS_KW, ASYNC_KW, CONST_KW, DYN_KW, FN_KW, FOR_KW, IMPL_KW, MUT_KW, SELF_TYPE_KW, UNSAFE_KW, USE_KW}
 use Rattle.rap_grammar_scripts.specs.Params.{is_named_param}
-use Rattle.rap_grammar_scripts.specs.Script.{Outcome, something}
 use Rattle.rap_grammar_scripts.specs.Test.{negated}
 use Rattle.rap_grammar_scripts.specs.Types.{starts_for_target}
 use Rattle.rap_grammar_scripts.specs.Words.{is_at}
-use Rattle.rap_grammar_scripts.specs.declared.rule.Rule.{Rule}
-use Rattle.rap_grammar_scripts.specs.declared.rule.Rule.TheVariants as knot
-use Rattle.rap_grammar_table.specs.Categories.{Ty, PlainTy, TyBeforePlus, AnchorTrait, Path, PathBeforePlus, UsePath, GlobalPath, AnchoredPath, Args, Argument, SimplePath, Bound, Bounds, Generics, ParamName, FnPointerParams, MacroPath, Expr, abi, attrs, macro_call, lifetime, name, name_ref, literals, path_names, use_names, bound_kinds, global_heads, lifetime_head, name_heads, other_heads, paren_heads, plain_firsts, plus_follows, segment_follows, symbol_kinds, type_firsts, type_follows}
-use Rattle.rap_grammar_table.specs.Known.{Place, never, behind}
-use Rattle.rap_grammar_table.specs.Narrow.{those}
-use Rattle.rap_grammar_table.specs.Look.{anything}
-use Rattle.rap_grammar_table.specs.Operators.{cast_follows}
-use Rattle.rap_grammar_table.specs.Notation.{up_to, Part, ◌⊳◌, t, ts, op, c, node, opt, either, commas, commas_last, until, alone, fold, guard, guard_before, Entry, text, read_text, of_kinds, of_names, touching, colons}
+use Rattle.rap_grammar_table.specs.Categories.{Ty, PlainTy, TyBeforePlus, AnchorTrait, Path, PathBeforePlus, UsePath, GlobalPath, AnchoredPath, Args, Argument, SimplePath, Bound, Bounds, Generics, ParamName, FnPointerParams, MacroPath, Expr, abi, attrs, macro_call, lifetime, name, name_ref, path_names, use_names}
+use Rattle.rap_grammar_table.specs.Known.{Place, anything}
+use Rattle.rap_grammar_table.specs.Notation.{Part, ◌⊳◌, t, ts, op, c, node, opt, either, commas, commas_last, until, alone, fold, guard, guard_before, of_kinds}
 
 -- a return type
 abbrev pub ret : ℕ → Part
@@ -31,21 +25,6 @@ args_rows =
     ∷ paren_args
     ∷ node RETURN_TYPE_SYNTAX (t L_PAREN ⊳ op DOT2 ⊳ t R_PAREN)
     ∷ []
-
--- what an argument begins with
-abbrev pub argument_kinds : List ℕ
-argument_kinds =
-    L_CURLY ∷ MINUS ∷ COLON ∷ UNDERSCORE ∷ LIFETIME_IDENT ∷ L_PAREN ∷ (literals ++ path_names ++ symbol_kinds)
-
-abbrev pub args_firsts : List (List Place)
-args_firsts =
-    (of_kinds (L_ANGLE ∷ []) ∷ of_kinds (R_ANGLE ∷ argument_kinds) ∷ [])
-    ∷ (of_kinds (L_PAREN ∷ []) ∷ of_kinds (R_PAREN ∷ argument_kinds) ∷ [])
-    ∷ (of_kinds (L_PAREN ∷ []) ∷ touching DOT ∷ of_kinds (DOT ∷ []) ∷ [])
-    ∷ colons ((of_kinds (L_ANGLE ∷ L_PAREN ∷ []) ∷ []) ∷ [])
-
-abbrev pub args_entry : Entry
-args_entry = text args_rows args_firsts (segment_follows ++ cast_follows)
 
 abbrev pub opt_args : Part
 opt_args = alone (opt (c Args))
@@ -72,21 +51,25 @@ named_paths category kinds =
     call_segment category path_names)
     ∷ []
 
-abbrev pub path_entry : Entry
-path_entry = text (named_paths PlainTy path_names) (name_heads path_names) type_follows
+abbrev pub path_rows : List Part
+path_rows =
+    named_paths PlainTy path_names
 
-abbrev pub path_before_plus_entry : Entry
-path_before_plus_entry = text (named_paths TyBeforePlus path_names) (name_heads path_names) plus_follows
+abbrev pub path_before_plus_rows : List Part
+path_before_plus_rows =
+    named_paths TyBeforePlus path_names
 
-abbrev pub use_path_entry : Entry
-use_path_entry = text (named_paths TyBeforePlus use_names) (name_heads use_names) plus_follows
+abbrev pub use_path_rows : List Part
+use_path_rows =
+    named_paths TyBeforePlus use_names
 
 -- a path that begins with `::`, and one that begins with a type
 abbrev pub global_path : Part
 global_path = node PATH (node PATH_SEGMENT (op COLON2 ⊳ name_ref path_names ⊳ opt_args)) ⊳ more_segments
 
-abbrev pub global_path_entry : Entry
-global_path_entry = text (global_path ∷ []) global_heads plus_follows
+abbrev pub global_path_rows : List Part
+global_path_rows =
+    global_path ∷ []
 
 abbrev pub anchor : Part
 anchor = node TYPE_ANCHOR (t L_ANGLE ⊳ c Ty ⊳ opt (t AS_KW ⊳ c AnchorTrait) ⊳ t R_ANGLE)
@@ -95,8 +78,9 @@ abbrev pub anchored_path : Part
 anchored_path =
     node PATH (node PATH (node PATH_SEGMENT anchor) ⊳ op COLON2 ⊳ segment path_names) ⊳ more_segments
 
-abbrev pub anchored_path_entry : Entry
-anchored_path_entry = text (anchored_path ∷ []) ((of_kinds (L_ANGLE ∷ []) ∷ []) ∷ []) plus_follows
+abbrev pub anchored_path_rows : List Part
+anchored_path_rows =
+    anchored_path ∷ []
 
 -- a path in an expression, where `::` stands before its arguments
 abbrev pub expr_segment : Part
@@ -119,38 +103,14 @@ expr_path_rows =
     ∷ (node PATH (node PATH (node PATH_SEGMENT anchor) ⊳ op COLON2 ⊳ expr_segment) ⊳ more_expr_segments)
     ∷ []
 
--- any token but a `:` may follow it, and a `:` that touches no other
-abbrev pub expr_path_follows : List (List Place)
-expr_path_follows =
-    (of_kinds (EOF ∷ those (λ kind. not (kind == COLON)) (up_to SHEBANG)) ∷ [])
-    ∷ (record { kinds = Some (COLON ∷ []); words = None; joint = never } ∷ [])
-    ∷ []
-
-abbrev pub expr_path_entry : Entry
-expr_path_entry =
-    text expr_path_rows
-    ((of_kinds (L_ANGLE ∷ []) ∷ []) ∷
-    (global_heads ++
-    behind (of_names path_names)
-    (expr_path_follows ++ colons ((of_kinds (L_ANGLE ∷ path_names) ∷ []) ∷ []))))
-    expr_path_follows
-
 -- a path with no return type, before a `for`, and the trait that it is
-abbrev pub simple_path_entry : Entry
-simple_path_entry =
-    text ((node PATH (segment path_names) ⊳ more_segments) ∷ [])
-    ((of_names path_names ∷ of_kinds (L_ANGLE ∷ L_PAREN ∷ FOR_KW ∷ []) ∷ []) ∷
-    behind (of_names path_names) (colons ((of_kinds (L_ANGLE ∷ L_PAREN ∷ path_names) ∷ []) ∷ [])))
-    ((of_kinds (FOR_KW ∷ []) ∷ []) ∷ [])
+abbrev pub simple_path_rows : List Part
+simple_path_rows =
+    (node PATH (segment path_names) ⊳ more_segments) ∷ []
 
-abbrev pub anchor_read_by : Rule → List Outcome
-anchor_read_by knot.PathTypeBounds = something ∷ []
-anchor_read_by r = []
-
-abbrev pub anchor_entry : Entry
-anchor_entry =
-    read_text anchor_read_by (node PATH_TYPE (c UsePath) ∷ node PATH_TYPE (c GlobalPath) ∷ [])
-    (name_heads use_names ++ global_heads) ((of_kinds (R_ANGLE ∷ []) ∷ []) ∷ [])
+abbrev pub anchor_trait_rows : List Part
+anchor_trait_rows =
+    node PATH_TYPE (c UsePath) ∷ node PATH_TYPE (c GlobalPath) ∷ []
 
 -- the parameters after a `for`
 abbrev pub for_binder : Part
@@ -179,16 +139,14 @@ bare_bounds =
     ∷ []
 
 -- each of them alone and in parentheses
-abbrev pub bound_rows : List Part → List Part
-bound_rows [] = []
-bound_rows (a ∷ more) =
-    node TYPE_BOUND (alone a) ∷ node TYPE_BOUND (t L_PAREN ⊳ alone a ⊳ t R_PAREN) ∷ bound_rows more
+abbrev pub alone_or_in_parens : List Part → List Part
+alone_or_in_parens [] = []
+alone_or_in_parens (a ∷ more) =
+    node TYPE_BOUND (alone a) ∷ node TYPE_BOUND (t L_PAREN ⊳ alone a ⊳ t R_PAREN) ∷ alone_or_in_parens more
 
-abbrev pub bound_firsts : List (List Place)
-bound_firsts = (of_kinds bound_kinds ∷ []) ∷ global_heads
-
-abbrev pub bound_entry : Entry
-bound_entry = text (bound_rows bare_bounds) bound_firsts plus_follows
+abbrev pub bound_rows : List Part
+bound_rows =
+    alone_or_in_parens bare_bounds
 
 -- bounds with `+` between them, and one behind the last or none
 abbrev pub bounds : Part
@@ -197,30 +155,13 @@ bounds = until (c Bound ⊳ t PLUS) (alone (opt (c Bound)))
 abbrev pub bound_list : Part
 bound_list = node TYPE_BOUND_LIST bounds
 
-abbrev pub bounds_read_by : Rule → List Outcome
-bounds_read_by knot.BoundsWithoutColon = something ∷ []
-bounds_read_by r = []
+abbrev pub bounds_rows : List Part
+bounds_rows =
+    bound_list ∷ []
 
-abbrev pub bounds_entry : Entry
-bounds_entry =
-    read_text bounds_read_by (bound_list ∷ [])
-    (bound_firsts ++ type_follows) type_follows
-
--- the parameters of a function pointer, and the name of one
-abbrev pub param_name_read_by : Rule → List Outcome
-param_name_read_by knot.PatternSingle = something ∷ []
-param_name_read_by r = []
-
-abbrev pub after_colon : List ℕ
-after_colon = UNDERSCORE ∷ LIFETIME_IDENT ∷ L_PAREN ∷ (symbol_kinds ++ path_names)
-
-abbrev pub param_name_entry : Entry
-param_name_entry =
-    read_text param_name_read_by (node IDENT_PAT name ∷ node WILDCARD_PAT (t UNDERSCORE) ∷ [])
-    ((of_names (IDENT ∷ []) ∷ of_kinds (COLON ∷ []) ∷ of_kinds after_colon ∷ [])
-    ∷ (of_kinds (UNDERSCORE ∷ []) ∷ of_kinds (COLON ∷ []) ∷ of_kinds after_colon ∷ [])
-    ∷ [])
-    ((of_kinds (COLON ∷ []) ∷ of_kinds after_colon ∷ []) ∷ [])
+abbrev pub param_name_rows : List Part
+param_name_rows =
+    node IDENT_PAT name ∷ node WILDCARD_PAT (t UNDERSCORE) ∷ []
 
 abbrev pub fn_pointer_param : List (List Place) → Part
 fn_pointer_param ways =
@@ -228,13 +169,11 @@ fn_pointer_param ways =
     (attrs ⊳
     either (guard_before ways is_named_param ⊳ c Ty) (either (c ParamName ⊳ t COLON ⊳ guard (is_at COLON2) ⊳ c Ty) (op DOT3)))
 
-abbrev pub fn_pointer_params_entry : Entry
-fn_pointer_params_entry =
-    text
-    (node PARAM_LIST
+abbrev pub fn_pointer_params_rows : List Part
+fn_pointer_params_rows =
+    node PARAM_LIST
     (t L_PAREN ⊳
-    commas_last (fn_pointer_param anything) (fn_pointer_param ((of_kinds (R_PAREN ∷ []) ∷ []) ∷ [])) ⊳ t R_PAREN) ∷ [])
-    ((of_kinds (L_PAREN ∷ []) ∷ []) ∷ []) anything
+    commas_last (fn_pointer_param anything) (fn_pointer_param ((of_kinds (R_PAREN ∷ []) ∷ []) ∷ [])) ⊳ t R_PAREN) ∷ []
 
 -- The types that begin with a symbol or a keyword, by the category of the type at their end.
 abbrev pub fn_pointer : ℕ → Part
@@ -281,38 +220,24 @@ bounded_symbol_types =
     ∷ bounded lifetime
     ∷ []
 
-abbrev pub type_read_by : Rule → List Outcome
-type_read_by (knot.TypeWithBoundsCond true) = something ∷ []
-type_read_by r = []
+abbrev pub trait_ref_rows : List Part
+trait_ref_rows =
+    node PATH_TYPE (c SimplePath) ∷ []
 
-abbrev pub trait_ref_entry : Entry
-trait_ref_entry =
-    read_text type_read_by (node PATH_TYPE (c SimplePath) ∷ [])
-    ((of_names path_names ∷ of_kinds (L_ANGLE ∷ L_PAREN ∷ FOR_KW ∷ []) ∷ []) ∷
-    behind (of_names path_names) (colons ((of_kinds (L_ANGLE ∷ L_PAREN ∷ path_names) ∷ []) ∷ [])))
-    ((of_kinds (FOR_KW ∷ []) ∷ []) ∷ [])
+abbrev pub type_rows : List Part
+type_rows =
+    node PATH_TYPE (c Path) ∷ bounded (node PATH_TYPE (c PathBeforePlus)) ∷ macro_type ∷
+    (symbol_types PlainTy ++ trait_types ++ bounded_symbol_types)
 
-abbrev pub plain_read_by : Rule → List Outcome
-plain_read_by (knot.TypeWithBoundsCond false) = something ∷ []
-plain_read_by r = []
+abbrev pub plain_type_rows : List Part
+plain_type_rows =
+    node PATH_TYPE (c Path) ∷ macro_type ∷ (symbol_types PlainTy ++ trait_types)
 
-abbrev pub type_entry : Entry
-type_entry =
-    read_text type_read_by
-    (node PATH_TYPE (c Path) ∷ bounded (node PATH_TYPE (c PathBeforePlus)) ∷ macro_type ∷
-    (symbol_types PlainTy ++ trait_types ++ bounded_symbol_types))
-    type_firsts type_follows
-
-abbrev pub plain_entry : Entry
-plain_entry =
-    read_text plain_read_by (node PATH_TYPE (c Path) ∷ macro_type ∷ (symbol_types PlainTy ++ trait_types)) plain_firsts type_follows
-
-abbrev pub before_plus_entry : Entry
-before_plus_entry =
-    read_text plain_read_by (node PATH_TYPE (c PathBeforePlus) ∷ macro_type ∷ symbol_types TyBeforePlus) plain_firsts plus_follows
+abbrev pub type_before_plus_rows : List Part
+type_before_plus_rows =
+    node PATH_TYPE (c PathBeforePlus) ∷ macro_type ∷ symbol_types TyBeforePlus
 
 -- those that begin with no name, as arguments
-abbrev pub symbol_entry : Entry
-symbol_entry =
-    text (symbol_types PlainTy ++ trait_types ++ bounded_symbol_types) (lifetime_head ∷ (other_heads ++ paren_heads))
-    ((of_kinds (COMMA ∷ R_ANGLE ∷ []) ∷ []) ∷ [])
+abbrev pub symbol_type_rows : List Part
+symbol_type_rows =
+    symbol_types PlainTy ++ trait_types ++ bounded_symbol_types

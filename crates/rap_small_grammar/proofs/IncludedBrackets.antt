@@ -9,19 +9,19 @@ use Rattle.rap_events.specs.Record.{Record, IsTokenRecord}
 use Rattle.rap_small_grammar.specs.Derives.{Is, IsName}
 use Rattle.rap_small_grammar.specs.MacroCall.{IsBracketed, IsMacroCall, brackets_around, called}
 use Rattle.rap_grammar_scripts.specs.Balanced.{ArePartners, Balanced, IsNoBracket, in_brackets, list_first, nothing_more, token_first}
+use Rattle.rap_grammar_table.specs.Rows.{grammar}
 use Rattle.rap_grammar_table.specs.AttributeRows.{no_brackets, tree_in}
 use Rattle.rap_grammar_table.specs.Categories.{Item, TokenTree}
 use Rattle.rap_small_grammar.specs.Inclusion.{HoldsBrackets, HoldsCall}
 use Rattle.rap_grammar_table.specs.ItemRows.{call_words}
 use Rattle.rap_grammar_table.specs.Known.{among}
 use Rattle.rap_grammar_table.specs.Notation.{row, up_to}
-use Rattle.rap_grammar_table.specs.Rows.{table}
 use Rattle.rap_grammar_table.specs.Table.{Items, a_token, cat, choice, folded_none, nil, piece, row_at, tok}
 use Rattle.rap_grammar_table.specs.Tops.{Makes}
 use Rattle.rap_small_grammar.proofs.IncludedRows.{Has, Row, Turns, closes, done, ends_with, folds_up, makes, none_comes, one_way, opens, other_way, puts, puts_alone, puts_token, repeats, turns}
 use Rattle.rap_grammar_table.proofs.Known.{by_or}
 use Rattle.rap_grammar_table.proofs.ByKind.{among_up_to}
-use Rattle.rap_grammar_table.proofs.Narrow.{among_those}
+use Rattle.rap_grammar_table.proofs.NarrowLaws.{among_those}
 
 -- each is of a token's kind
 data AreTokens : List Record → Type 0 where
@@ -61,7 +61,7 @@ same_tree : (a c : Record) (t : Forest) (bra ket : ℕ) → a.kind ≡ bra → c
 same_tree a c t bra ket e f = rw (e, f) refl
 
 tree_by : (a c : Record) {ks : List Record} {t : Forest} (n bra ket : ℕ) →
-    row_at n (table.rows TokenTree) ≡ Some (row (tree_in bra ket)) → a.kind ≡ bra → c.kind ≡ ket →
+    row_at n (grammar TokenTree) ≡ Some (row (tree_in bra ket)) → a.kind ≡ bra → c.kind ≡ ket →
     Turns any_token nil ks t → Makes TokenTree (a ∷ (ks ++ c ∷ [])) (in_brackets a t c)
 tree_by a c {ks = ks} {t = t} n bra ket h e f m =
     let first : Is a bra = record { kind_is = e } in

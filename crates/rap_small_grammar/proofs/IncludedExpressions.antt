@@ -16,10 +16,10 @@ use Rattle.rap_small_grammar.proofs.IncludedRows.{Headed, FoldsTo, nothing_behin
 use Rattle.rap_small_grammar.proofs.IncludedTurns.{comes_from, from_of, in_closed, powers_of, turn_items}
 use Rattle.rap_small_grammar.proofs.Operators.{by_truth}
 use Rattle.rap_small_grammar.proofs.Begins.{Single}
+use Rattle.rap_grammar_table.specs.Rows.{grammar}
 use Rattle.rap_grammar_table.specs.Categories.{Assigned, Closed, Condition, Expr, Operand, StmtOperand}
 use Rattle.rap_grammar_table.specs.Known.{among}
 use Rattle.rap_grammar_table.specs.Operators.{all_turns, assign_turns, cast_turns, closed_turns, is_angled, operator, range_turn}
-use Rattle.rap_grammar_table.specs.Rows.{table}
 use Rattle.rap_grammar_table.specs.Notation.{◌⊳◌}
 use Rattle.rap_grammar_table.specs.Table.{Items, nil, piece, cat, close, folds, HasWay, first_turn, other_turn, row_at}
 use Rattle.rap_grammar_table.specs.Tops.{Makes}
@@ -140,7 +140,7 @@ abbrev closed_items : Bool → ℕ → Items
 closed_items forbid p = piece (cat (Operand forbid)) (folds 12 (closed_turns forbid p nil) nil)
 
 abbrev ClosedAt : Bool → ℕ → Type 0
-ClosedAt forbid p = row_at 0 (table.rows (Closed forbid p)) ≡ Some (closed_items forbid p)
+ClosedAt forbid p = row_at 0 (grammar (Closed forbid p)) ≡ Some (closed_items forbid p)
 
 -- the numbers from 4 to 12
 four_on : (P : ℕ → Type 0) (p : ℕ) → 4 ≤ p → p ≤ 12 → P 4 → P 5 → P 6 → P 7 → P 8 → P 9 → P 10 → P 11 → P 12 → P p

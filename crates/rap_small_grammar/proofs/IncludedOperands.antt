@@ -12,12 +12,12 @@ use Rattle.rap_small_grammar.proofs.Begins.{literal_kind, past_is, past_prefix}
 use Rattle.rap_small_grammar.proofs.IncludedLists.{Optional, WithCommas, Stands, opt_listed}
 use Rattle.rap_small_grammar.proofs.IncludedRows.{Headed, nothing_behind, behind_it, said_so, whole, Row, Folded, none_yet, one_more, rolled, done, opens, closes, one_way, other_way, repeats, no_group, makes, puts, puts_first, puts_last, puts_alone, puts_token, puts_name}
 use Rattle.rap_small_grammar.proofs.IncludedTypes.{expression_path}
+use Rattle.rap_grammar_table.specs.Rows.{grammar}
 use Rattle.rap_grammar_table.proofs.Known.{by_or}
 use Rattle.rap_grammar_table.specs.Categories.{ArgList, Atom, Expr, Operand, Prefixed, StmtOperand, StmtPrefixed, WithBlock, literals}
 use Rattle.rap_grammar_table.specs.ExprRows.{postfixes, prefix_before, ref_before}
 use Rattle.rap_grammar_table.specs.Known.{among}
 use Rattle.rap_grammar_table.specs.Notation.{t, c, ◌⊳◌, around}
-use Rattle.rap_grammar_table.specs.Rows.{table}
 use Rattle.rap_grammar_table.specs.Table.{row_at, Items, nil, HasWay, first_turn, other_turn, a_token}
 use Rattle.rap_grammar_table.specs.Tops.{Makes}
 
@@ -32,8 +32,8 @@ one_among (j ∷ js) k h =
     by_or (j == k) (one_of js k) h (λ e. rw e refl) (λ m. rw (one_among js k m, or-true (j == k)) refl)
 
 -- by a row that both have, one place later where a record literal may stand
-by_row_of : {is : Items} {ks : List Record} {t : Forest} (n : ℕ) → row_at (suc n) (table.rows (Atom false)) ≡ Some is →
-    row_at n (table.rows (Atom true)) ≡ Some is → Row is none [] ks t → AtomSo ks t
+by_row_of : {is : Items} {ks : List Record} {t : Forest} (n : ℕ) → row_at (suc n) (grammar (Atom false)) ≡ Some is →
+    row_at n (grammar (Atom true)) ≡ Some is → Row is none [] ks t → AtomSo ks t
 by_row_of n e i r = record { free = makes (suc n) e r; forbidden = makes n i r }
 
 pub literal_atom : {r : Record} → IsLiteral r → AtomSo (r ∷ []) (node none LITERAL (leaf none r.kind 1))

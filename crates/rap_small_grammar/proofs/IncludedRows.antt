@@ -9,18 +9,18 @@ use Rattle.rap_grammar_scripts.specs.Test.{Test, holds}
 use Rattle.rap_small_grammar.specs.Derives.{Is, IsName, Writes, tokens_of}
 use Rattle.rap_small_grammar.specs.Derives as old
 use Rattle.rap_grammar_ends.proofs.Ways.{none-⧺}
+use Rattle.rap_grammar_table.specs.Rows.{grammar}
 use Rattle.rap_grammar_table.specs.Known.{Place, among}
 use Rattle.rap_grammar_table.specs.Notation.{name_words}
-use Rattle.rap_grammar_table.specs.Rows.{table}
 use Rattle.rap_grammar_table.specs.Table.{Piece, tok, comp, cat, Items, nil, begin, close, piece, choice, repeat, turns_of, group, folds, folding, unless, appended, HasWay, row_at, one, rest_of, Touching, Derives, last_part, next_part, by_row, a_token, an_operator, ended, begun, closed, put, first_way, second_way, last_turn, one_turn, repeated, grouped, folded_none, folded_more, folded, guarded}
 use Rattle.rap_grammar_table.specs.Tops.{Makes}
 
 -- a piece of a row, and the rest of one, after this forest and with these in the older nodes
 abbrev pub Has : Piece → List Record → Forest → Type 0
-Has p ks t = Derives table (one p) ks t
+Has p ks t = Derives grammar (one p) ks t
 
 abbrev pub Row : Items → Forest → List Forest → List Record → Forest → Type 0
-Row is x xs ks y = Derives table (rest_of is x xs) ks y
+Row is x xs ks y = Derives grammar (rest_of is x xs) ks y
 
 pub done : {x : Forest} → Row nil x [] [] x
 done = ended
@@ -47,10 +47,10 @@ other_way r = second_way r
 
 -- turns, and nodes around the last one from a number on
 abbrev pub Turns : Items → Items → List Record → Forest → Type 0
-Turns a z ks t = Derives table (rest_of (turns_of a z) none []) ks t
+Turns a z ks t = Derives grammar (rest_of (turns_of a z) none []) ks t
 
 abbrev pub Folds : ℕ → Items → Forest → List Record → Forest → Type 0
-Folds n ws x ks t = Derives table (rest_of (folding n ws) x []) ks t
+Folds n ws x ks t = Derives grammar (rest_of (folding n ws) x []) ks t
 
 pub ends_with : {a z : Items} {x : Forest} {ks : List Record} → Row z none [] ks x → Turns a z ks x
 ends_with r = last_turn r
@@ -91,7 +91,7 @@ pub folds_up : {n j : ℕ} {ws is : Items} {c x y u : Forest} {xs : List Forest}
 folds_up {u = u} d r = folded d r
 
 -- a row of a category
-pub makes : {c : ℕ} {is : Items} {ks : List Record} {t : Forest} (n : ℕ) → row_at n (table.rows c) ≡ Some is →
+pub makes : {c : ℕ} {is : Items} {ks : List Record} {t : Forest} (n : ℕ) → row_at n (grammar c) ≡ Some is →
     Row is none [] ks t → Makes c ks t
 makes n e r = by_row n e r
 

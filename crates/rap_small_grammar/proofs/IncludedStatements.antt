@@ -14,12 +14,12 @@ use Rattle.rap_small_grammar.proofs.IncludedLists.{Optional, missing, there, not
 use Rattle.rap_small_grammar.proofs.IncludedRows.{whole, Row, Turns, done, opens, closes, one_way, other_way, ends_with, turns, repeats, none_comes, no_group, guards, folds_up, makes, puts, puts_first, puts_last, puts_alone, puts_token, puts_name}
 use Rattle.rap_small_grammar.proofs.IncludedTypes.{TypeSo}
 use Rattle.rap_grammar_ends.proofs.Ways.{none-⧺}
+use Rattle.rap_grammar_table.specs.Rows.{grammar}
 use Rattle.rap_grammar_table.specs.Categories.{Block, BlockStmt, Condition, EndingBlock, Expr, If, MacroTail, Pattern, Stmt, StmtList, StmtOperand, Tail, WithBlock}
 use Rattle.rap_grammar_table.specs.Categories as categories
 use Rattle.rap_grammar_table.specs.ExprRows.{block_part}
 use Rattle.rap_grammar_table.specs.Notation.{◌⊳◌, t, c, opt, either, guard}
 use Rattle.rap_grammar_table.specs.Operators.{all_turns}
-use Rattle.rap_grammar_table.specs.Rows.{table}
 use Rattle.rap_grammar_table.specs.StmtRows.{if_after, none_before}
 use Rattle.rap_grammar_table.specs.Table.{row_at, Items, nil, close, piece, cat, folds}
 use Rattle.rap_grammar_table.specs.Tops.{Makes}
@@ -134,8 +134,8 @@ pub record WithBlockSo (ks : List Record) (x : Forest) : Type 0 where
   pub ending : Makes EndingBlock ks x
 
 -- by a row that both have
-by_both : {is : Items} {ks : List Record} {x : Forest} (n : ℕ) → row_at n (table.rows WithBlock) ≡ Some is →
-    row_at n (table.rows EndingBlock) ≡ Some is → Row is none [] ks x → WithBlockSo ks x
+by_both : {is : Items} {ks : List Record} {x : Forest} (n : ℕ) → row_at n (grammar WithBlock) ≡ Some is →
+    row_at n (grammar EndingBlock) ≡ Some is → Row is none [] ks x → WithBlockSo ks x
 by_both n e i r = record { any = makes n e r; ending = makes n i r }
 
 pub block_alone : {ks : List Record} {x : Forest} → BlockSo ks x → WithBlockSo ks x

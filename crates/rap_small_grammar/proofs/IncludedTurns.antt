@@ -8,8 +8,7 @@ use Rattle.rap_small_grammar.proofs.Operators.{by_truth}
 use Rattle.rap_grammar_table.proofs.Known.{by_or, same_number}
 use Rattle.rap_grammar_table.specs.Categories.{Closed}
 use Rattle.rap_grammar_table.specs.Known.{among}
-use Rattle.rap_grammar_table.specs.Narrow.{kept, those}
-use Rattle.rap_grammar_table.specs.Notation.{up_to}
+use Rattle.rap_grammar_table.specs.Notation.{kept, those, up_to}
 use Rattle.rap_grammar_table.specs.Operators.{all_from, up_from, from_on, operator, angled, each_power, closed_turns}
 use Rattle.rap_grammar_table.specs.Table.{Items, nil, close, piece, cat, way, HasWay, first_turn, other_turn}
 

@@ -1,7 +1,7 @@
 -- The forests that a row and a script build over the same pieces.
 use Rattle.std.specs.Prelude.{ℕ, suc, Bool, true, false, ◌&&◌, ◌==◌, List, [], ◌∷◌}
+use Rattle.rap_grammar_table.proofs.Narrow.{Fact}
 use Rattle.rap_grammar_table.specs.Known.{among}
-use Rattle.rap_grammar_table.specs.Narrow.{Fact}
 use Rattle.rap_grammar_table.specs.Table.{Items}
 
 -- A forest that is built: the one that there was, nothing, a node over a forest, or the tree of a piece by its number.

@@ -9,11 +9,12 @@ use Rattle.rap_grammar_scripts.specs.Knot.{script_of}
 use Rattle.rap_grammar_scripts.specs.Script.{Outcome, Runs, Script}
 use Rattle.rap_grammar_scripts.specs.Test.{Test, holds}
 use Rattle.rap_grammar_scripts.specs.declared.rule.Rule.{Rule}
+use Rattle.rap_grammar_table.proofs.Hints.{Table}
+use Rattle.rap_grammar_table.proofs.Refusal.{accepted}
+use Rattle.rap_grammar_table.proofs.Walk.{reads_rows}
+use Rattle.rap_grammar_table.proofs.Ways.{some_outcome, has_outcome}
 use Rattle.rap_grammar_table.specs.Known.{Place, among, within, Sees}
-use Rattle.rap_grammar_table.specs.Table.{Table, Piece, tok, word, comp, cat, Items, nil, begin, close, piece, choice, repeat, turns_of, group, folds, folding, unless, appended, HasWay, Touching}
-use Rattle.rap_grammar_table.specs.Refusal.{accepted}
-use Rattle.rap_grammar_table.specs.Walk.{reads_rows}
-use Rattle.rap_grammar_table.specs.Ways.{some_outcome, has_outcome}
+use Rattle.rap_grammar_table.specs.Table.{Piece, tok, word, comp, cat, Items, nil, begin, close, piece, choice, repeat, turns_of, group, folds, folding, unless, appended, HasWay, Touching}
 
 -- a rule reads these tokens as this tree, before these tokens and after this forest
 pub record Reads (t : Table) (r : Rule) (c : ℕ) (ks : List Record) (u : Forest) (l : List Record) (f : Forest)

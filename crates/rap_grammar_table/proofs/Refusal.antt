@@ -3,7 +3,7 @@ use Rattle.std.specs.Prelude.{ℕ, Bool, true, false, not, ◌||◌, List}
 use Rattle.rap_grammar_scripts.specs.Script.{Script, Outcome, give, test, ends_with, token, any, bear, report, report_next, skip, start, precede, finish, extend, abandon, split_float, after, rule, loop}
 use Rattle.rap_grammar_scripts.specs.Test.{Test}
 use Rattle.rap_grammar_scripts.specs.declared.rule.Rule.{Rule}
-use Rattle.rap_grammar_table.specs.Built.{Built}
+use Rattle.rap_grammar_table.proofs.Built.{Built}
 use Rattle.rap_grammar_table.specs.Table.{cat, Items, begin, close, piece, repeat, group, folds, unless}
 
 -- the word that a script has next, without what stands after it
