@@ -67,8 +67,8 @@ class Table:
 
     def __init__(self, top):
         self.evaluator = Evaluator(Modules([f'{top}/crates/{it}/specs' for it in CRATES]))
-        self.entries = self.evaluator.of('Rows', 'entries')
-        self.rows = [[row(it) for it in entry['rows']] for entry in self.entries]
+        self.lists = self.evaluator.of('Rows', 'row_lists')
+        self.rows = [[row(it) for it in found] for found in self.lists]
         self.names = {}
         self.parts = dict(self.named_parts())
         found = self.evaluator.library.modules['Categories'].definitions
@@ -87,7 +87,7 @@ class Table:
                 self.number(name, parameters[1:], (*given, it))
             return
         value = self.evaluator.give(self.evaluator.of('Categories', name), list(given))
-        if value < len(self.entries):
+        if value < len(self.lists):
             self.names.setdefault(value, (name, given))
 
     def named_parts(self):

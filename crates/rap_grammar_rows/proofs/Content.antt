@@ -1,18 +1,12 @@
 -- The numbers mean the rows of the table.
-use Rattle.std.proofs.Common.{◌≡◌, List, [], ◌∷◌, refl}
+use Rattle.std.proofs.Common.{◌≡◌, refl}
 use Rattle.rap_grammar_rows.specs.Code.{forms, firsts, seconds, nexts, row_places, sets, turns}
 use Rattle.rap_grammar_rows.specs.Decode.{item_at, parts_of}
 use Rattle.rap_grammar_rows.specs.Rows.{all_parts, rows_in}
-use Rattle.rap_grammar_table.proofs.Entry.{Entry}
-use Rattle.rap_grammar_table.proofs.Table.{entries}
-use Rattle.rap_grammar_table.specs.Table.{Items}
+use Rattle.rap_grammar_table.specs.Rows.{row_lists}
 use Rattle.rap_grammar_table.specs.Tops.{file_row}
 
-abbrev pub rows_of : List Entry → List (List Items)
-rows_of [] = []
-rows_of (e ∷ es) = e.rows ∷ rows_of es
-
-pub content : rows_in all_parts row_places ≡ rows_of entries
+pub content : rows_in all_parts row_places ≡ row_lists
 unfolding all_parts parts_of forms firsts seconds nexts row_places sets turns
 content = refl
 

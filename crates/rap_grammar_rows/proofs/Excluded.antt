@@ -196,11 +196,7 @@ no_named r (s ∷ us) l h =
 -- a restriction
 record NoName (k : ℕ) : Type 0 where
   no_in : (k == IN_KW) ≡ false
-  same : one_of (CRATE_KW ∷ SELF_KW ∷ SUPER_KW ∷ IDENT ∷ R_PAREN ∷ []) k ≡ one_of (IDENT ∷ R_PAREN ∷ []) k
-
-or_same : (a b : Bool) → a ≡ false → (a || b) ≡ b
-or_same true b h = absurd cc
-or_same false b h = refl
+  no_other : one_of (CRATE_KW ∷ SELF_KW ∷ SUPER_KW ∷ []) k ≡ false
 
 no_name_there : (k : ℕ) → none_of (EOF ∷ CRATE_KW ∷ SELF_KW ∷ SUPER_KW ∷ IN_KW ∷ []) k ≡ true → NoName k
 no_name_there k h =
@@ -210,29 +206,24 @@ no_name_there k h =
     let d = not_both (k == SUPER_KW) (none_of (IN_KW ∷ []) k) c.1 in
     record {
       no_in = not_one (k == IN_KW) d.1;
-      same =
-          or_same (CRATE_KW == k) _ (flip CRATE_KW k b.0) ∙
-          (or_same (SELF_KW == k) _ (flip SELF_KW k c.0) ∙ or_same (SUPER_KW == k) _ (flip SUPER_KW k d.0));
+      no_other =
+          no_or (CRATE_KW == k) _ (flip CRATE_KW k b.0)
+          (no_or (SELF_KW == k) _ (flip SELF_KW k c.0) (no_or (SUPER_KW == k) false (flip SUPER_KW k d.0) refl));
     }
 
-not_itself : (q y : Bool) → (q && (not y && not q)) ≡ false
-not_itself false y = refl
-not_itself true false = refl
-not_itself true true = refl
+not_before : (q y : Bool) → y ≡ true → (q && not y) ≡ false
+not_before false y e = refl
+not_before true y e = rw e refl
 
-not_before : (q y p : Bool) → y ≡ true → (q && (not y && p)) ≡ false
-not_before false y p e = refl
-not_before true y p e = rw e refl
-
-restricted_known : (n a m o t q y p i : Bool) → (n || (m || (o && t))) ≡ true → (n ≡ true → a ≡ false) →
-    (m ≡ true → (i ≡ false) × (q ≡ p)) → (o ≡ true → i ≡ false) → (t ≡ true → y ≡ true) →
-    ((a && (q && (not y && not p))) || (a && i)) ≡ false
-restricted_known n false m o t q y p i h f g k w = refl
-restricted_known true true m o t q y p i h f g k w = absurd (let e = f refl in absurd cc)
-restricted_known false true true o t q y p i h f g k w =
-    let e = g refl in no_or _ i (subst (λ (b : Bool). (q && (not y && not b)) ≡ false) e.1 (not_itself q y)) e.0
-restricted_known false true false true t q y p i h f g k w = no_or _ i (not_before q y (not p) (w h)) (k refl)
-restricted_known false true false false t q y p i h f g k w = absurd cc
+restricted_known : (n a m o t q y i : Bool) → (n || (m || (o && t))) ≡ true → (n ≡ true → a ≡ false) →
+    (m ≡ true → (i ≡ false) × (q ≡ false)) → (o ≡ true → i ≡ false) → (t ≡ true → y ≡ true) →
+    ((a && (q && not y)) || (a && i)) ≡ false
+restricted_known n false m o t q y i h f g k w = refl
+restricted_known true true m o t q y i h f g k w = absurd (let e = f refl in absurd cc)
+restricted_known false true true o t q y i h f g k w =
+    let e = g refl in no_or (q && not y) i (no_and q (not y) e.1) e.0
+restricted_known false true false true t q y i h f g k w = no_or _ i (not_before q y (w h)) (k refl)
+restricted_known false true false false t q y i h f g k w = absurd cc
 
 no_restricted : Excludes no_restriction (guard_at 10 guards)
 no_restricted r [] l h =
@@ -242,9 +233,9 @@ no_restricted r (s ∷ us) l h =
     restricted_known (not (r.kind == L_PAREN)) (r.kind == L_PAREN)
     (none_of (EOF ∷ CRATE_KW ∷ SELF_KW ∷ SUPER_KW ∷ IN_KW ∷ []) s.kind) (not (s.kind == IN_KW))
     (kind_at us 0 == COLON)
-    (one_of (CRATE_KW ∷ SELF_KW ∷ SUPER_KW ∷ IDENT ∷ R_PAREN ∷ []) s.kind) (kind_at (us ++ l) 0 == COLON)
-    (one_of (IDENT ∷ R_PAREN ∷ []) s.kind) (s.kind == IN_KW) h (not_one (r.kind == L_PAREN))
-    (λ e. let n = no_name_there s.kind e in (n.no_in, n.same)) (not_one (s.kind == IN_KW)) (kind_known us l)
+    (one_of (CRATE_KW ∷ SELF_KW ∷ SUPER_KW ∷ []) s.kind) (kind_at (us ++ l) 0 == COLON) (s.kind == IN_KW) h
+    (not_one (r.kind == L_PAREN)) (λ e. let n = no_name_there s.kind e in (n.no_in, n.no_other))
+    (not_one (s.kind == IN_KW)) (kind_known us l)
 
 -- generic parameters
 params_known : (a p q s t u v : Bool) → (a && (p || (q && s))) ≡ true → (p ≡ true → t ≡ true) →

@@ -3,7 +3,7 @@ use Rattle.std.proofs.Common.{◌≡◌, ℕ, zero, suc, ◌<◌, ◌≤◌, tru
 use Rattle.std.proofs.lemmas.List.{append-nil}
 use Rattle.rap_events.specs.Forest.{Forest, none, node, ◌⧺◌}
 use Rattle.rap_events.specs.Record.{Record}
-use Rattle.rap_grammar_rows.proofs.Content.{rows_of, content, file_content}
+use Rattle.rap_grammar_rows.proofs.Content.{content, file_content}
 use Rattle.rap_grammar_rows.proofs.Leads.{behind}
 use Rattle.rap_grammar_rows.specs.Claims.{Segment, Rest, From, Point, StepIs, IsPiece, IsTurns, IsFold, Folded, row_point, turn_point}
 use Rattle.rap_grammar_rows.specs.Code.{row_places, sets, turns}
@@ -16,34 +16,20 @@ use Rattle.rap_grammar_rows.specs.declared.shape.Outcome.{Outcome}
 use Rattle.rap_grammar_rows.specs.declared.shape.Outcome.TheVariants as outcome
 use Rattle.rap_grammar_rows.specs.declared.shape.Shape.{Shape}
 use Rattle.rap_grammar_rows.specs.declared.shape.Shape.TheVariants.{OneNode}
-use Rattle.rap_grammar_table.specs.Rows.{grammar}
+use Rattle.rap_grammar_table.specs.Rows.{grammar, rows_at}
 use Rattle.rap_grammar_table.specs.Known.{among}
-use Rattle.rap_grammar_table.proofs.Entry.{Entry, entry_at}
-use Rattle.rap_grammar_table.proofs.Table.{entries}
 use Rattle.rap_grammar_table.specs.Table.{Items, HasWay, first_turn, other_turn, Derives, rest_of, cat, row_at, by_row, last_turn, one_turn, folded_none, folded_more}
 use Rattle.rap_grammar_table.specs.Tops.{MakesRow, file_row}
 
 -- rows by their numbers
-rows_at : ℕ → List (List Items) → List Items
-rows_at n [] = []
-rows_at zero (r ∷ rs) = r
-rows_at (suc n) (r ∷ rs) = rows_at n rs
-
-entry_rows : (n : ℕ) (es : List Entry) → (entry_at n es).rows ≡ rows_at n (rows_of es)
-unfolding rows_at
-entry_rows n [] = refl
-entry_rows zero (e ∷ es) = refl
-entry_rows (suc n) (e ∷ es) = entry_rows n es
-
 places_rows : (n : ℕ) (is : List Items) (pss : List (List ℕ)) →
     rows_at n (rows_in is pss) ≡ items_in is (set_in n pss)
-unfolding rows_at
 places_rows n is [] = refl
 places_rows zero is (ps ∷ pss) = refl
 places_rows (suc n) is (ps ∷ pss) = places_rows n is pss
 
 rows_is : (c : ℕ) → grammar c ≡ items_in all_parts (set_in c row_places)
-rows_is c = entry_rows c entries ∙ (ap (rows_at c) (sym content) ∙ places_rows c all_parts row_places)
+rows_is c = ap (rows_at c) (sym content) ∙ places_rows c all_parts row_places
 
 row_in : (n : ℕ) (is : List Items) (ps : List ℕ) → n < length ps →
     row_at n (items_in is ps) ≡ Some (item_at (get_or ps n 0) is)

@@ -134,7 +134,7 @@ pub record IsTurns (tokens : List Record) (turn last start end : ℕ) : Type 0 w
   pub part : List Record
   pub is_part : Segment tokens start end part
   pub tree : Forest
-  pub derives : Derives grammar (rest_of (turns_of (at_place turn) (at_place last)) none [] []) part tree
+  pub derives : Derives grammar (rest_of (turns_of (at_place turn) (at_place last)) none []) part tree
 
 -- nodes around one
 pub record Folded (n : ℕ) (ws : Items) (part : List Record) (k : ℕ) (c : Forest) : Type 0 where

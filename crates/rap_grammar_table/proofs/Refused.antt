@@ -7,12 +7,11 @@ use Rattle.rap_grammar_scripts.specs.Knot.{script_of}
 use Rattle.rap_grammar_scripts.specs.Script.{something}
 use Rattle.rap_grammar_scripts.specs.declared.arguments.Semicolon.TheVariants as semicolon
 use Rattle.rap_grammar_scripts.specs.declared.rule.Rule.TheVariants as knot
-use Rattle.rap_grammar_scripts.specs.Test.{negated, or_else}
+use Rattle.rap_grammar_scripts.specs.Test.{negated}
 use Rattle.rap_grammar_scripts.specs.Types.{type_with_bounds_cond}
-use Rattle.rap_grammar_scripts.specs.Visibility.{starts_restriction, starts_in_restriction}
 use Rattle.rap_grammar_table.specs.Categories.{Ty, PlainTy, Args, Item, Block, Expr, Stmt, Attr, ArgList, Atom, Operand, Closed, lifetime, name}
 use Rattle.rap_grammar_table.specs.ExprRows.{field_part}
-use Rattle.rap_grammar_table.specs.ItemRows.{opt_visibility, restriction}
+use Rattle.rap_grammar_table.specs.ItemRows.{opt_visibility, restriction, restricts}
 use Rattle.rap_grammar_table.proofs.Lasts.{ends_plain}
 use Rattle.rap_grammar_table.proofs.Look.{followed, is_one_node, depth}
 use Rattle.rap_grammar_table.specs.Notation.{Part, ◌⊳◌, t, ts, c, node, opt, either, commas, guard, turn, around, row, of_kinds}
@@ -97,7 +96,7 @@ no_condition = refl
 
 turned_condition :
     as_item (tuple_struct (field_with (node VISIBILITY (t PUB_KW) ⊳
-    guard (negated (or_else (starts_restriction true) starts_in_restriction))))) ≡ false
+    guard (negated restricts)))) ≡ false
 unfolding scripts tests
 turned_condition = refl
 

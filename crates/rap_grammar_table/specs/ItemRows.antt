@@ -2,12 +2,10 @@
 use Rattle.std.specs.Prelude.{ℕ, true, List, [], ◌∷◌, ◌++◌, ◌==◌, not, Option, Some, map}
 use Rattle.rap_base.specs.KeywordTable.{contextual_ever}
 use Rattle.rap_base.specs.NodeKind.{CONST, CONST_ARG, ENUM, FN, ITEM_LIST, MODULE, NAME, NAME_REF, PARAM, PARAM_LIST, PATH, PATH_SEGMENT, RECORD_FIELD, RECORD_FIELD_LIST, SELF_PARAM, STATIC, STRUCT, TUPLE_FIELD, TUPLE_FIELD_LIST, TYPE_ALIAS, VARIANT, VARIANT_LIST, VISIBILITY, VISIBILITY_INNER, RENAME, USE, USE_TREE, USE_TREE_LIST, EXTERN_CRATE, EXTERN_BLOCK, EXTERN_ITEM_LIST, ASSOC_ITEM_LIST, MACRO_RULES, MACRO_CALL, UNION, TRAIT, IMPL}
-use Rattle.rap_base.specs.TokenKind.{DOT3, AUTO_KW, DEFAULT_KW, L_BRACK, R_BRACK, EOF, IDENT, SEMICOLON, COMMA, COLON, COLON2, EQ, L_PAREN, R_PAREN, L_CURLY, R_CURLY, AMP, UNDERSCORE, ASYNC_KW, CONST_KW, CRATE_KW, ENUM_KW, EXTERN_KW, FN_KW, IN_KW, MOD_KW, MUT_KW, PUB_KW, SELF_KW, STATIC_KW, STRUCT_KW, SUPER_KW, TYPE_KW, UNSAFE_KW, AS_KW, STAR, BANG, L_ANGLE, UNION_KW, USE_KW, TRAIT_KW, IMPL_KW, FOR_KW, MACRO_RULES_KW, SAFE_KW}
+use Rattle.rap_base.specs.TokenKind.{DOT3, AUTO_KW, DEFAULT_KW, L_BRACK, R_BRACK, EOF, IDENT, SEMICOLON, COMMA, COLON, COLON2, EQ, L_PAREN, R_PAREN, L_CURLY, R_CURLY, AMP, UNDERSCORE, ASYNC_KW, CONST_KW, CRATE_KW, ENUM_KW, EXTERN_KW, FN_KW, IN_KW, MOD_KW, MUT_KW, PUB_KW, SELF_KW, STATIC_KW, STRUCT_KW, SUPER_KW, TYPE_KW, UNSAFE_KW, AS_KW, STAR, BANG, L_ANGLE, UNION_KW, USE_KW, TRAIT_KW, IMPL_KW, FOR_KW, MACRO_RULES_KW, SAFE_KW, POUND, R_ANGLE, LIFETIME_IDENT}
 use Rattle.rap_grammar_scripts.specs.First.{one_of}
-use Rattle.rap_grammar_scripts.specs.Test.{or_else, Test, negated}
-use Rattle.rap_grammar_scripts.specs.Traits.{is_impl_params_start}
-use Rattle.rap_grammar_scripts.specs.Visibility.{starts_restriction, starts_in_restriction}
-use Rattle.rap_grammar_scripts.specs.Words.{is_at, next_is, next_so}
+use Rattle.rap_grammar_scripts.specs.Test.{Test, also, comes, kind_so, negated, or_else}
+use Rattle.rap_grammar_scripts.specs.Words.{is_at, kind_is, next_is, next_so}
 use Rattle.rap_grammar_table.specs.AttributeRows.{tree_in}
 use Rattle.rap_grammar_table.specs.Categories.{Ty, PlainTy, Generics, Where, ParamPattern, Expr, Block, Visibility, RecordField, Variant, FnParams, Item, abi, attrs, lifetime, name, Bounds, TraitRef, UseTree, inner_attrs, name_ref, plain_segment, use_names}
 use Rattle.rap_grammar_table.specs.Notation.{those, Part, ◌⊳◌, t, c, node, opt, either, many, commas, alone, guard, op, weak, fold}
@@ -32,11 +30,19 @@ visibility_rows =
 abbrev pub opt_visibility : Part
 opt_visibility = alone (opt (c Visibility))
 
+-- a restriction comes next: a `crate`, `self` or `super` alone in parentheses, or an `in`
+abbrev pub restricts : Test
+restricts =
+    or_else
+    (also (is_at L_PAREN)
+    (also (kind_so 1 (one_of (CRATE_KW ∷ SELF_KW ∷ SUPER_KW ∷ []))) (negated (kind_is 2 COLON))))
+    (also (is_at L_PAREN) (comes 1 IN_KW))
+
 -- the same before a type, whose parentheses may read as a restriction
 abbrev pub field_visibility : Part
 field_visibility =
     either (node VISIBILITY (t PUB_KW ⊳ restriction))
-    (node VISIBILITY (t PUB_KW) ⊳ guard (or_else (starts_restriction true) starts_in_restriction))
+    (node VISIBILITY (t PUB_KW) ⊳ guard restricts)
 
 -- the fields of a struct or of a variant
 abbrev pub field_rows : List Part
@@ -152,8 +158,16 @@ import_items =
 abbrev pub assoc_list : Part
 assoc_list = items_under ASSOC_ITEM_LIST
 
+-- parameters come next, and no path that begins with a type: where both may be meant, as in `<T> ::a`, parameters
+abbrev pub begins_params : Test
+begins_params =
+    also (is_at L_ANGLE)
+    (or_else (kind_so 1 (one_of (POUND ∷ R_ANGLE ∷ CONST_KW ∷ [])))
+    (also (kind_so 1 (one_of (LIFETIME_IDENT ∷ IDENT ∷ [])))
+    (kind_so 2 (one_of (R_ANGLE ∷ COMMA ∷ COLON ∷ EQ ∷ [])))))
+
 abbrev pub impl_params : Part
-impl_params = opt (guard (negated is_impl_params_start) ⊳ c Generics)
+impl_params = opt (guard (negated begins_params) ⊳ c Generics)
 
 abbrev pub no_impl_type : Test
 no_impl_type = next_so (one_of (L_ANGLE ∷ L_PAREN ∷ BANG ∷ IMPL_KW ∷ CONST_KW ∷ []))

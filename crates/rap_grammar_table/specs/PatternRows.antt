@@ -1,8 +1,9 @@
 -- The rows of patterns.
 use Rattle.std.specs.Prelude.{ℕ, List, [], ◌∷◌, ◌++◌}
 use Rattle.rap_base.specs.NodeKind.{CONST_BLOCK_PAT, IDENT_PAT, LITERAL, LITERAL_PAT, NAME_REF, OR_PAT, PAREN_PAT, PATH_PAT, RANGE_PAT, RECORD_PAT, RECORD_PAT_FIELD, RECORD_PAT_FIELD_LIST, REF_PAT, REST_PAT, SLICE_PAT, TUPLE_PAT, TUPLE_STRUCT_PAT, WILDCARD_PAT}
-use Rattle.rap_base.specs.TokenKind.{EOF, IDENT, SEMICOLON, COMMA, COLON, DOT, DOT2, DOT2EQ, EQ, L_PAREN, R_PAREN, L_BRACK, R_BRACK, L_CURLY, R_CURLY, AMP, AT, MINUS, PIPE, UNDERSCORE, LIFETIME_IDENT, INT_NUMBER, FLOAT_NUMBER, CONST_KW, IF_KW, IN_KW, MUT_KW, REF_KW}
-use Rattle.rap_grammar_scripts.specs.Patterns.{is_ident_pat_start}
+use Rattle.rap_base.specs.TokenKind.{EOF, IDENT, SEMICOLON, COMMA, COLON, DOT, DOT2, DOT2EQ, EQ, L_PAREN, R_PAREN, L_BRACK, R_BRACK, L_CURLY, R_CURLY, AMP, AT, MINUS, PIPE, UNDERSCORE, LIFETIME_IDENT, INT_NUMBER, FLOAT_NUMBER, CONST_KW, IF_KW, IN_KW, MUT_KW, REF_KW, BANG, COLON2}
+use Rattle.rap_grammar_scripts.specs.First.{one_of}
+use Rattle.rap_grammar_scripts.specs.Test.{Test, also, comes, kind_so, negated}
 use Rattle.rap_grammar_scripts.specs.Words.{is_at}
 use Rattle.rap_grammar_table.specs.Categories.{Pattern, SinglePattern, PatternPath, RestPattern, Block, attrs, literal, name, path_names, symbol_kinds}
 use Rattle.rap_grammar_table.specs.Known.{Place}
@@ -28,6 +29,12 @@ abbrev pub literal_pattern : Part
 literal_pattern =
     node LITERAL_PAT (either literal (t MINUS ⊳ node LITERAL (ts (INT_NUMBER ∷ FLOAT_NUMBER ∷ []))))
 
+-- an identifier comes next that begins no path of several names, no path with fields, and no macro call
+abbrev pub is_lone_name : Test
+is_lone_name =
+    also (is_at IDENT)
+    (also (negated (kind_so 1 (one_of (L_PAREN ∷ L_CURLY ∷ BANG ∷ [])))) (negated (comes 1 COLON2)))
+
 -- a field of a record
 abbrev pub record_field : Part
 record_field =
@@ -51,10 +58,10 @@ single_rows =
     ∷ node SLICE_PAT (t L_BRACK ⊳ commas element ⊳ t R_BRACK)
     ∷ literal_pattern
     ∷ node RANGE_PAT (literal_pattern ⊳ either (op DOT2EQ) (op DOT2) ⊳ literal_pattern)
-    ∷ node PATH_PAT (guard is_ident_pat_start ⊳ c PatternPath)
-    ∷ node TUPLE_STRUCT_PAT (guard is_ident_pat_start ⊳ c PatternPath ⊳ t L_PAREN ⊳ commas element ⊳ t R_PAREN)
+    ∷ node PATH_PAT (guard is_lone_name ⊳ c PatternPath)
+    ∷ node TUPLE_STRUCT_PAT (guard is_lone_name ⊳ c PatternPath ⊳ t L_PAREN ⊳ commas element ⊳ t R_PAREN)
     ∷ node RECORD_PAT
-    (guard is_ident_pat_start ⊳ c PatternPath ⊳ node RECORD_PAT_FIELD_LIST
+    (guard is_lone_name ⊳ c PatternPath ⊳ node RECORD_PAT_FIELD_LIST
     (t L_CURLY ⊳ commas (either record_field (node REST_PAT (attrs ⊳ op DOT2))) ⊳ t R_CURLY))
     ∷ node CONST_BLOCK_PAT (t CONST_KW ⊳ c Block)
     ∷ []

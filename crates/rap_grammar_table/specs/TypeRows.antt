@@ -1,11 +1,10 @@
 -- The rows of types, of the paths in them, and of bounds.
 use Rattle.std.specs.Prelude.{ℕ, List, [], ◌∷◌, ◌++◌}
 use Rattle.rap_base.specs.NodeKind.{ARRAY_TYPE, CONST_ARG, DYN_TRAIT_TYPE, FN_PTR_TYPE, FOR_BINDER, FOR_TYPE, GENERIC_ARG_LIST, IDENT_PAT, IMPL_TRAIT_TYPE, INFER_TYPE, MACRO_TYPE, NEVER_TYPE, PARAM, PARAM_LIST, PARENTHESIZED_ARG_LIST, PAREN_TYPE, PATH, PATH_SEGMENT, PATH_TYPE, PTR_TYPE, REF_TYPE, RETURN_TYPE_SYNTAX, RET_TYPE, SLICE_TYPE, TUPLE_TYPE, TYPE_ANCHOR, TYPE_ARG, TYPE_BOUND, TYPE_BOUND_LIST, USE_BOUND_GENERIC_ARGS, WILDCARD_PAT}
-use Rattle.rap_base.specs.TokenKind.{IDENT, SEMICOLON, COMMA, COLON, COLON2, DOT2, DOT3, L_PAREN, R_PAREN, L_BRACK, R_BRACK, L_ANGLE, R_ANGLE, AMP, STAR, BANG, PLUS, TILDE, QUESTION, UNDERSCORE, THIN_ARROW, AS_KW, ASYNC_KW, CONST_KW, DYN_KW, FN_KW, FOR_KW, IMPL_KW, MUT_KW, SELF_TYPE_KW, UNSAFE_KW, USE_KW}
-use Rattle.rap_grammar_scripts.specs.Params.{is_named_param}
-use Rattle.rap_grammar_scripts.specs.Test.{negated}
-use Rattle.rap_grammar_scripts.specs.Types.{starts_for_target}
-use Rattle.rap_grammar_scripts.specs.Words.{is_at}
+use Rattle.rap_base.specs.TokenKind.{IDENT, SEMICOLON, COMMA, COLON, COLON2, DOT2, DOT3, L_PAREN, R_PAREN, L_BRACK, R_BRACK, L_ANGLE, R_ANGLE, AMP, STAR, BANG, PLUS, TILDE, QUESTION, UNDERSCORE, THIN_ARROW, AS_KW, ASYNC_KW, CONST_KW, DYN_KW, FN_KW, FOR_KW, IMPL_KW, MUT_KW, SELF_TYPE_KW, UNSAFE_KW, USE_KW, EXTERN_KW, SELF_KW, SUPER_KW, CRATE_KW}
+use Rattle.rap_grammar_scripts.specs.First.{one_of}
+use Rattle.rap_grammar_scripts.specs.Test.{Test, also, comes, negated, or_else}
+use Rattle.rap_grammar_scripts.specs.Words.{is_at, kind_is, next_so}
 use Rattle.rap_grammar_table.specs.Categories.{Ty, PlainTy, TyBeforePlus, AnchorTrait, Path, PathBeforePlus, UsePath, GlobalPath, AnchoredPath, Args, Argument, SimplePath, Bound, Bounds, Generics, ParamName, FnPointerParams, MacroPath, Expr, abi, attrs, macro_call, lifetime, name, name_ref, path_names, use_names}
 use Rattle.rap_grammar_table.specs.Known.{Place, anything}
 use Rattle.rap_grammar_table.specs.Notation.{Part, ◌⊳◌, t, ts, op, c, node, opt, either, commas, commas_last, until, alone, fold, guard, guard_before, of_kinds}
@@ -163,11 +162,15 @@ abbrev pub param_name_rows : List Part
 param_name_rows =
     node IDENT_PAT name ∷ node WILDCARD_PAT (t UNDERSCORE) ∷ []
 
+-- a name and a colon come next
+abbrev pub has_name : Test
+has_name = also (or_else (is_at IDENT) (is_at UNDERSCORE)) (also (kind_is 1 COLON) (negated (comes 1 COLON2)))
+
 abbrev pub fn_pointer_param : List (List Place) → Part
 fn_pointer_param ways =
     node PARAM
     (attrs ⊳
-    either (guard_before ways is_named_param ⊳ c Ty) (either (c ParamName ⊳ t COLON ⊳ guard (is_at COLON2) ⊳ c Ty) (op DOT3)))
+    either (guard_before ways has_name ⊳ c Ty) (either (c ParamName ⊳ t COLON ⊳ guard (is_at COLON2) ⊳ c Ty) (op DOT3)))
 
 abbrev pub fn_pointer_params_rows : List Part
 fn_pointer_params_rows =
@@ -181,8 +184,14 @@ fn_pointer category =
     node FN_PTR_TYPE
     (alone (opt (t UNSAFE_KW) ⊳ opt abi) ⊳ t FN_KW ⊳ c FnPointerParams ⊳ alone (opt (ret category)))
 
+-- what may stand behind the parameters of a `for`: a function pointer or a path
+abbrev pub takes_for : Test
+takes_for =
+    or_else (next_so (one_of (FN_KW ∷ UNSAFE_KW ∷ EXTERN_KW ∷ [])))
+    (or_else (next_so (one_of (IDENT ∷ SELF_KW ∷ SUPER_KW ∷ CRATE_KW ∷ []))) (is_at COLON2))
+
 abbrev pub for_type : ℕ → Part
-for_type category = node FOR_TYPE (for_binder ⊳ guard (negated starts_for_target) ⊳ c category)
+for_type category = node FOR_TYPE (for_binder ⊳ guard (negated takes_for) ⊳ c category)
 
 abbrev pub symbol_types : ℕ → List Part
 symbol_types category =
