@@ -1,11 +1,43 @@
-"""The table of the core grammar: its categories with their rows, each a tuple of pieces.
+"""The table of the core grammar: its categories with their rows, each a tuple of pieces. A category is its number among
+all.
 
     ('token', kinds, words)   ('word', kind)   ('operator', kind)   ('category', number)
     ('node', kind, row)   ('choice', row, row)   ('repeat', turn, last)   ('unless', test)
     ('around', row, number, turns): nodes around the last one of a row, each by a turn (numbers, row, kind, next)"""
+import itertools
+import re
+
 from core_page.values import Evaluator, Made, Modules
 
 CRATES = ('rap_grammar_table', 'rap_grammar_scripts', 'rap_events', 'rap_base')
+
+
+def constructors(path):
+    """The data types of a module, each with its constructors and the types of what these are given."""
+    found = {}
+    with open(path, encoding='utf-8') as file:
+        for line in file:
+            if head := re.match(r'pub data (\w+) :', line):
+                found[head[1]] = kinds = {}
+            elif it := re.match(r'  (\w+) : (.*)', line):
+                kinds[it[1]] = it[2].split(' → ')[:-1]
+    return found
+
+
+def values_of(kind, types):
+    """All values of a data type, in the order of its constructors."""
+    if kind == 'Bool':
+        return [False, True]
+    return [Made(name, given) for name, wanted in types[kind].items()
+            for given in itertools.product(*(values_of(it, types) for it in wanted))]
+
+
+def shown(value, is_inside=False):
+    """A category as a term."""
+    if isinstance(value, bool):
+        return str(value).lower()
+    text = ' '.join([value.name, *(shown(it, True) for it in value.arguments)])
+    return f'({text})' if value.arguments else text
 
 
 def nested(items):
@@ -67,28 +99,30 @@ class Table:
 
     def __init__(self, top):
         self.evaluator = Evaluator(Modules([f'{top}/crates/{it}/specs' for it in CRATES]))
-        self.lists = self.evaluator.of('Rows', 'row_lists')
-        self.rows = [[row(it) for it in found] for found in self.lists]
-        self.names = {}
+        types = constructors(f'{top}/crates/rap_grammar_table/specs/Category.antt')
+        self.categories = values_of('Category', types)
+        self.numbers = {it: at for at, it in enumerate(self.categories)}
+        grammar = self.evaluator.of('Rows', 'grammar')
+        self.lists = [self.evaluator.give(grammar, [it]) for it in self.categories]
+        self.rows = [[self.read(it) for it in found] for found in self.lists]
+        self.names = {at: (it.name, it.arguments) for at, it in enumerate(self.categories)}
         self.parts = dict(self.named_parts())
-        found = self.evaluator.library.modules['Categories'].definitions
-        # A power alone is given to numbers of which others have names of their own, so it comes last.
-        for name in sorted((it for it in found if it[0].isupper()), key=lambda it: list(found[it].parameters) == ['ℕ']):
-            self.number(name, found[name].parameters, ())
 
     def row(self, module, name):
         """A row that is defined outside of the table."""
-        return row(self.evaluator.of(module, name))
+        return self.read(self.evaluator.of(module, name))
 
-    def number(self, name, parameters, given):
-        """Notes the numbers of a category, for all that it is given."""
-        if parameters:
-            for it in ((False, True) if parameters[0] == 'Bool' else range(4, 13)):
-                self.number(name, parameters[1:], (*given, it))
-            return
-        value = self.evaluator.give(self.evaluator.of('Categories', name), list(given))
-        if value < len(self.lists):
-            self.names.setdefault(value, (name, given))
+    def read(self, items):
+        """A row, with its categories by their numbers."""
+        return self.numbered(row(items))
+
+    def numbered(self, it):
+        """A part of a row, with its categories by their numbers."""
+        if not isinstance(it, tuple):
+            return it
+        if it[:1] == ('category',):
+            return 'category', self.numbers[it[1]]
+        return tuple(self.numbered(part) for part in it)
 
     def named_parts(self):
         """The rows of the parts that have a name of their own, which several rows share. Of two with one name each has
@@ -100,4 +134,4 @@ class Table:
             items = self.evaluator.give(self.evaluator.of(it.module, it.name), [Made('nil')])
             if items.name not in ('way', 'folds'):
                 home = '' if names.count(it.name) == 1 else it.module.removesuffix('Rows').lower() + '_'
-                yield row(items), home + it.name
+                yield self.read(items), home + it.name

@@ -7,8 +7,8 @@ from dataclasses import dataclass
 
 from grammar_page import antt
 
-# Constructors that patterns name without arguments.
-CONSTRUCTORS = {'nil', 'None', 'sure', 'never', 'unclear', 'nothing', 'something', 'block'}
+# Constructors that patterns name without arguments, beside those with a capital letter.
+CONSTRUCTORS = {'nil', 'sure', 'never', 'unclear', 'nothing', 'something', 'block'}
 
 
 @dataclass(frozen=True)
@@ -152,7 +152,7 @@ class Evaluator:
         name = pattern[1]
         if name in NATIVE:
             return value == NATIVE[name](self)
-        if '.' in name or name in CONSTRUCTORS:
+        if '.' in name or name in CONSTRUCTORS or name[:1].isupper():
             return value == Made(name.split('.')[-1])
         names[name] = value
         return True

@@ -7,8 +7,8 @@ use Rattle.rap_events.specs.Forest.{Forest, none, node, ◌⧺◌, used}
 use Rattle.rap_grammar_scripts.specs.ThroughKnot.{expr, pattern, pattern_single, type_, meta}
 use Rattle.rap_grammar_ends.specs.Mixed.{IsFront}
 use Rattle.rap_grammar_table.specs.AttributeRows.{meta_follows}
-use Rattle.rap_grammar_table.specs.Categories as table
-use Rattle.rap_grammar_table.specs.Categories.{plus_follows, type_follows}
+use Rattle.rap_grammar_table.specs.Category as table
+use Rattle.rap_grammar_table.specs.SharedRows.{plus_follows, type_follows}
 use Rattle.rap_grammar_table.specs.Fronts.{MakesBefore}
 use Rattle.rap_grammar_table.specs.Heads.{file_head, items_head}
 use Rattle.rap_grammar_table.specs.Operators.{expr_ends}

@@ -8,7 +8,7 @@ use Rattle.rap_grammar_scripts.specs.Test.{Test, kind_so}
 use Rattle.rap_grammar_ends.proofs.Recovery.{AreItems}
 use Rattle.rap_grammar_ends.proofs.Ways.{Leads}
 use Rattle.rap_grammar_ends.specs.Mixed.{IsStray}
-use Rattle.rap_grammar_table.specs.Categories as category
+use Rattle.rap_grammar_table.specs.Category as category
 use Rattle.rap_grammar_table.specs.Fronts.{any_but}
 use Rattle.rap_grammar_table.specs.Known.{Sees}
 use Rattle.rap_grammar_table.specs.Notation.{those, up_to}

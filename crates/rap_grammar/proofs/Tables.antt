@@ -10,7 +10,7 @@ use Rattle.rap_grammar_scripts.specs.ThroughKnot.{expr, meta, pattern, type_}
 use Rattle.rap_grammar_scripts.specs.declared.rule.Rule.{Rule}
 use Rattle.rap_grammar_scripts.proofs.OneEnd.{one_end}
 use Rattle.rap_grammar_ends.specs.Dots.{dots_inside}
-use Rattle.rap_grammar_table.specs.Categories.{Expr, Meta, Pattern, Ty}
+use Rattle.rap_grammar_table.specs.Category.{Expr, Meta, Pattern, Ty}
 use Rattle.rap_grammar_table.proofs.Good.{IsNode}
 use Rattle.rap_grammar_table.specs.Tops.{Makes, MakesRow, file_row, items_row, stmts_row}
 use Rattle.rap_grammar_table.proofs.Fronts.{category_clean, row_clean}

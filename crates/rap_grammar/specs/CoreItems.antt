@@ -2,7 +2,7 @@
 use Rattle.std.specs.Prelude.{List}
 use Rattle.rap_events.specs.Forest.{Forest}
 use Rattle.rap_events.specs.Record.{Record}
-use Rattle.rap_grammar_table.specs.Categories as table
+use Rattle.rap_grammar_table.specs.Category as table
 use Rattle.rap_grammar_table.specs.Tops.{Makes}
 
 -- These tokens are an item of the table with this tree.

@@ -18,7 +18,7 @@ use Rattle.rap_grammar_scripts.specs.Traits.{assoc_item_list}
 use Rattle.rap_grammar_scripts.specs.UseItem.{use_tree_list}
 use Rattle.rap_grammar_scripts.specs.Visibility.{opt_visibility}
 use Rattle.rap_grammar_scripts.specs.Words.{recur, done, if_some}
-use Rattle.rap_grammar_table.specs.Categories as table
+use Rattle.rap_grammar_table.specs.Category as table
 use Rattle.rap_grammar_table.specs.Tops.{Makes}
 use Rattle.rap_grammar.specs.Top.{IsForestOver}
 use Rattle.rap_grammar.specs.declared.entry.part.Part.{Part}

@@ -7,9 +7,11 @@ use Rattle.rap_events.specs.Forest.{Forest, none, node, ◌⧺◌, used}
 use Rattle.rap_events.specs.Record.{Record, next_kind}
 use Rattle.rap_grammar_ends.proofs.Standing.{Stands, empty, with_leaf, with_node, both, of_node, used-stands}
 use Rattle.rap_grammar_scripts.specs.Test.{Test, kind_so}
-use Rattle.rap_grammar_table.specs.Rows.{grammar, row_lists, rows_at}
+use Rattle.rap_grammar_table.proofs.Places.{each_so, every, same_category_so}
+use Rattle.rap_grammar_table.specs.Numbers.{categories}
+use Rattle.rap_grammar_table.specs.Rows.{grammar}
 use Rattle.rap_grammar_table.specs.Again.{IsMade, IsTableTree, MakesIn, MakesItsNodes, a_file, category_in, of_category, parsed_again, some_items, some_stmts}
-use Rattle.rap_grammar_table.specs.Categories.{AssocItems, Attr, Block, ExternItems, ItemList, MatchArms, RecordFields, RecordValues, TokenTree, UseTrees, Variants}
+use Rattle.rap_grammar_table.specs.Category.{AssocItems, Attr, Block, ExternItems, ItemList, MatchArms, RecordFields, RecordValues, TokenTree, UseTrees, Variants, Category}
 use Rattle.rap_grammar_table.proofs.Good.{Good, good_category}
 use Rattle.rap_grammar_table.specs.Known.{Place, among}
 use Rattle.rap_grammar_table.proofs.Look.{depth}
@@ -77,7 +79,7 @@ piece_apart (tok kinds words) is js (a_token m w) h i = not_both h (subst (λ (k
 piece_apart (word k) is js d h i = absurd cc
 piece_apart (comp k) is js d h i = absurd cc
 piece_apart (cat c) is {ks = ks} {u = u} js d h i =
-    attr_apart js (subst (λ (n : ℕ). Makes n ks u) (same_number c Attr h) d) i
+    attr_apart js (subst (λ (n : Category). Makes n ks u) (same_category_so c Attr h) d) i
 
 apart : {is : Items} {x : Forest} {xs : List Forest} {ks : List Record} {y : Forest} →
     Makings (rest_of is x xs) ks y → no_brace_first is ≡ true → next_kind ks ≡ L_CURLY → ⊥
@@ -99,7 +101,7 @@ told true is n (one_open s m o) = one_open s (n refl) o
 told false is n o = o
 
 -- the rows of categories, followed from their first pieces
-from_start : (c n : ℕ) (is : Items) → row_at n (grammar c) ≡ Some (begin is) →
+from_start : (c : Category) (n : ℕ) (is : Items) → row_at n (grammar c) ≡ Some (begin is) →
     Leads none [] (record { category = c; left = is })
 from_start c n is e = λ ks y d. by_row n e (begun d)
 
@@ -139,7 +141,7 @@ lead_same x js true q qs l m = (l refl, m)
 lead_same x js false q qs l m = m
 
 -- on past a piece
-past_one : (x u : Forest) (js ks : List Record) {p : Piece} → Makings (one p) ks u → (c : ℕ) (left : Items)
+past_one : (x u : Forest) (js ks : List Record) {p : Piece} → Makings (one p) ks u → (c : Category) (left : Items)
     (qs : List Followed) → Leads x js (record { category = c; left = left }) → LeadAll (x ⧺ u) (js ++ ks) qs →
     LeadAll (x ⧺ u) (js ++ ks) (past_piece p c left qs)
 past_one x u js ks {p = p} d c (piece q is) qs l m =
@@ -156,7 +158,7 @@ lead_piece x u js ks {p = p} d (q ∷ qs) l =
 
 -- on past turns
 past_some : (x u : Forest) (js ks : List Record) {a z : Items} → Makings (rest_of (turns_of a z) none []) ks u →
-    (c : ℕ) (left : Items) (qs : List Followed) → Leads x js (record { category = c; left = left }) →
+    (c : Category) (left : Items) (qs : List Followed) → Leads x js (record { category = c; left = left }) →
     LeadAll (x ⧺ u) (js ++ ks) qs → LeadAll (x ⧺ u) (js ++ ks) (past_turns a z c left qs)
 past_some x u js ks {a = a} {z = z} d c (repeat b y is) qs l m =
     lead_same (x ⧺ u) (js ++ ks) (same_items b a && same_items y z) (record { category = c; left = is }) qs
@@ -173,16 +175,16 @@ lead_turns x u js ks {a = a} {z = z} d (q ∷ qs) l =
     past_some x u js ks d q.category q.left (step_turns a z qs) l.0 (lead_turns x u js ks d qs l.1)
 
 -- a node that ends
-of_none : (o : Option ℕ) (own : List Record) (t : Forest) → is_none o ≡ true → MakesIn o own t
+of_none : (o : Option Category) (own : List Record) (t : Forest) → is_none o ≡ true → MakesIn o own t
 of_none None own t h = tt
 of_none (Some c) own t h = absurd cc
 
-of_same : (o : Option ℕ) (c : ℕ) (own : List Record) (t : Forest) → is_category o c ≡ true → Makes c own t →
+of_same : (o : Option Category) (c : Category) (own : List Record) (t : Forest) → is_category o c ≡ true → Makes c own t →
     MakesIn o own t
 of_same None c own t h m = absurd cc
-of_same (Some d) c own t h m = subst (λ (n : ℕ). Makes n own t) (sym (same_number d c h)) m
+of_same (Some d) c own t h m = subst (λ (n : Category). Makes n own t) (sym (same_category_so d c h)) m
 
-of_followed : (k c : ℕ) (left : Items) (x : Forest) (js : List Record) → ends_one k c left ≡ true →
+of_followed : (k : ℕ) (c : Category) (left : Items) (x : Forest) (js : List Record) → ends_one k c left ≡ true →
     Leads x js (record { category = c; left = left }) → IsMade k js x
 of_followed k c (close j nil) x js h l = λ i.
     let e = same_number j k (and_left (j == k) _ h) in
@@ -392,24 +394,14 @@ width_is (last_part e) = refl
 width_is (next_part e j t) = ap suc (as_many t)
 
 -- each row of the table is such a row
-abbrev rows_hold : List Items → Bool
-rows_hold rs = all_rows (parts_so depth [] false []) rs
-
-abbrev each_hold : List (List Items) → Bool
-each_hold [] = true
-each_hold (rs ∷ more) = rows_hold rs && each_hold more
-
-all_hold : each_hold row_lists ≡ true
+all_hold : every (λ c. all_rows (parts_so depth [] false []) (grammar c)) categories ≡ true
 all_hold = refl
 
-category_holds : (rows : List (List Items)) (c : ℕ) → each_hold rows ≡ true → rows_hold (rows_at c rows) ≡ true
-category_holds [] c h = refl
-category_holds (rs ∷ more) zero h = and_left (rows_hold rs) _ h
-category_holds (rs ∷ more) (suc c) h = category_holds more c (and_right (rows_hold rs) _ h)
-
-row_holds : (c n : ℕ) (row : Items) → row_at n (grammar c) ≡ Some row → parts_so depth [] false [] row ≡ true
+row_holds : (c : Category) (n : ℕ) (row : Items) → row_at n (grammar c) ≡ Some row →
+    parts_so depth [] false [] row ≡ true
 row_holds c n row e =
-    of_all (parts_so depth [] false []) (grammar c) n row (category_holds row_lists c all_hold) e
+    of_all (parts_so depth [] false []) (grammar c) n row
+    (each_so (λ (d : Category). all_rows (parts_so depth [] false []) (grammar d)) c all_hold) e
 
 stands : {g : Goal} {ks : List Record} {y : Forest} → Makings g ks y → Claim g ks y
 stands (by_row {c = c} {row = row} {ks = ks} n e d) = stands d ks (alone depth ks (row_holds c n row e))
@@ -436,7 +428,7 @@ stands (folded {ks = ks} {js = js} d e) = λ all w.
 stands (guarded g d) = λ all w. stands d all (at_guard w)
 
 -- so its leaves stand for its tokens
-pub category_used : {c : ℕ} {ks : List Record} {y : Forest} → Makes c ks y → used y ≡ length ks
+pub category_used : {c : Category} {ks : List Record} {y : Forest} → Makes c ks y → used y ≡ length ks
 category_used d = used-stands (stands d)
 
 -- what stands under the node of an entry

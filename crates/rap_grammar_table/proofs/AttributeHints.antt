@@ -8,7 +8,8 @@ use Rattle.rap_grammar_table.proofs.Entry.{Entry, text, read_text, of_names, col
 use Rattle.rap_grammar_table.proofs.Evaluate.{behind}
 use Rattle.rap_grammar_table.proofs.SharedHints.{attr_heads, brackets, macro_head}
 use Rattle.rap_grammar_table.specs.AttributeRows.{token_tree_rows, macro_path_rows, cfg_rows, meta_follows, meta_rows, attr_rows, inner_attr_rows}
-use Rattle.rap_grammar_table.specs.Categories.{TokenTree, Meta, path_names}
+use Rattle.rap_grammar_table.specs.Category.{TokenTree, Meta}
+use Rattle.rap_grammar_table.specs.SharedRows.{path_names}
 use Rattle.rap_grammar_table.specs.Known.{anything}
 use Rattle.rap_grammar_table.specs.Notation.{of_kinds}
 

@@ -6,6 +6,7 @@ use Rattle.rap_grammar_scripts.specs.declared.rule.Rule.{Rule}
 use Rattle.rap_grammar_table.proofs.Evaluate.{behind}
 use Rattle.rap_grammar_table.proofs.Hints.{Table}
 use Rattle.rap_grammar_table.proofs.Walk.{outcome_guesses}
+use Rattle.rap_grammar_table.specs.Category.{Category}
 use Rattle.rap_grammar_table.specs.Known.{Place, unclear, sure}
 use Rattle.rap_grammar_table.specs.Notation.{Part, name_words, c, rows_of, of_kinds}
 use Rattle.rap_grammar_table.specs.Table.{Grammar, Items}
@@ -29,36 +30,18 @@ pub record Entry : Type 0 where
   pub ends : List (List Outcome)
   pub read_by : Rule → List Outcome
 
-abbrev pub no_entry : Entry
-no_entry =
-    record {
-      rows = [];
-      firsts = [];
-      follows = [];
-      is_node = false;
-      unbraced = false;
-      by_rows = false;
-      ends = [];
-      read_by = λ r. [];
-    }
-
-abbrev pub entry_at : ℕ → List Entry → Entry
-entry_at n [] = no_entry
-entry_at zero (e ∷ es) = e
-entry_at (suc n) (e ∷ es) = entry_at n es
-
 -- these rows, and what is told of them
-abbrev pub table_of : Grammar → List Entry → Table
-table_of g es =
+abbrev pub table_of : Grammar → (Category → Entry) → Table
+table_of g e =
     record {
       rows = g;
-      firsts = λ c. (entry_at c es).firsts;
-      follows = λ c. (entry_at c es).follows;
-      is_node = λ c. (entry_at c es).is_node;
-      unbraced = λ c. (entry_at c es).unbraced;
-      by_rows = λ c. (entry_at c es).by_rows;
-      ends = λ c. (entry_at c es).ends;
-      reads = λ r c. (entry_at c es).read_by r;
+      firsts = λ c. (e c).firsts;
+      follows = λ c. (e c).follows;
+      is_node = λ c. (e c).is_node;
+      unbraced = λ c. (e c).unbraced;
+      by_rows = λ c. (e c).by_rows;
+      ends = λ c. (e c).ends;
+      reads = λ r c. (e c).read_by r;
     }
 
 -- A category whose trees are nodes, which has its rows alone: one that no rule reads, and one that a rule reads.

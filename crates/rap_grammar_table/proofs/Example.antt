@@ -7,14 +7,14 @@ use Rattle.rap_events.specs.Record.{Record}
 use Rattle.rap_grammar_scripts.specs.Test.{holds}
 use Rattle.rap_grammar_scripts.specs.Words.{next_is}
 use Rattle.rap_grammar_table.specs.Rows.{grammar}
-use Rattle.rap_grammar_table.specs.Categories.{Bound, Predicate, Ty, PlainTy}
+use Rattle.rap_grammar_table.specs.Category.{Bound, Predicate, Ty, PlainTy, Category}
 use Rattle.rap_grammar_table.specs.GenericRows.{bounds_end}
 use Rattle.rap_grammar_table.specs.Known.{Sees}
 use Rattle.rap_grammar_table.specs.Notation.{◌⊳◌, t, c, opt, alone, row}
 use Rattle.rap_grammar_table.specs.Table.{Derives, one, rest_of, cat, turns_of, by_row, a_token, ended, begun, closed, put, first_way, second_way, last_turn, repeated, grouped, guarded}
 use Rattle.rap_grammar_table.proofs.Known.{never_so}
 
-abbrev Makes : ℕ → List Record → Forest → Type 0
+abbrev Makes : Category → List Record → Forest → Type 0
 Makes c ks y = Derives grammar (one (cat c)) ks y
 
 a_never : (r : Record) → r.kind ≡ BANG → Makes Ty (r ∷ []) (node none NEVER_TYPE (leaf none r.kind 1))

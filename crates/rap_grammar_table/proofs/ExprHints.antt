@@ -10,10 +10,12 @@ use Rattle.rap_grammar_table.proofs.Evaluate.{behind}
 use Rattle.rap_grammar_table.proofs.OperatorHints.{atom_kinds, block_kinds, operand_kinds, open_kinds, operator_kinds, end_kinds, arrow, operand_ends, closed_follows, cast_follows, operand_follows, atom_follows, path_follows, path_heads, places_in}
 use Rattle.rap_grammar_table.proofs.SharedHints.{attr_heads, global_heads}
 use Rattle.rap_grammar_table.proofs.TypeHints.{plain_read_by}
-use Rattle.rap_grammar_table.specs.Categories.{literals, path_names}
-use Rattle.rap_grammar_table.specs.ExprRows.{round_tree_rows, brace_tree_rows, arg_list_rows, name_expr_rows, record_value_rows, plain_atoms, atom_rows, operand_rows, prefixed_rows, else_rows, stmt_operand_rows, stmt_prefixed_rows, open_atoms, open_prefixed_rows, closed_rows, with_cast_rows, range_end_rows, open_rows, expr_rows, without_let, condition_rows, guard_rows, cast_path_rows, cast_type_rows}
+use Rattle.rap_grammar_table.specs.SharedRows.{literals, path_names}
+use Rattle.rap_grammar_table.specs.ExprRows.{round_tree_rows, brace_tree_rows, arg_list_rows, name_expr_rows, record_value_rows, plain_atoms, atom_rows, operand_rows, prefixed_rows, else_rows, stmt_operand_rows, stmt_prefixed_rows, open_atoms, open_prefixed_rows, closed_rows, with_cast_rows, range_end_rows, open_or_rows, open_and_rows, expr_rows, without_let, condition_rows, guard_rows, cast_path_rows, cast_type_rows}
+use Rattle.rap_grammar_table.specs.Category.{Level, Or, And, Comparison, BitOr, BitXor, BitAnd, Shift, Sum, Product}
 use Rattle.rap_grammar_table.specs.Known.{Place, anything}
-use Rattle.rap_grammar_table.specs.Notation.{Part, rows_of, of_kinds, same_flag}
+use Rattle.rap_grammar_table.specs.Notation.{Part, rows_of, of_kinds}
+use Rattle.rap_grammar_table.proofs.Ways.{same_flag}
 use Rattle.rap_grammar_table.specs.Operators.{expr_ends}
 use Rattle.rap_grammar_table.specs.TypeRows.{expr_path_rows}
 
@@ -200,17 +202,27 @@ open_prefixed_entry =
 abbrev pub kinds_only : List ℕ → List (List Place)
 kinds_only kinds = (of_kinds kinds ∷ []) ∷ []
 
-abbrev pub closed_entry : Bool → ℕ → Entry
-closed_entry forbid power =
-    nodes_of (by_expr forbid false power (something ∷ []))
-    (closed_rows forbid power)
-    (kinds_only operand_kinds) (closed_follows forbid power)
+-- the power with which a rule reads what stands at the right of an operator of a level: above the operator's
+abbrev pub power_behind : Level → ℕ
+power_behind Or = 4
+power_behind And = 5
+power_behind Comparison = 6
+power_behind BitOr = 7
+power_behind BitXor = 8
+power_behind BitAnd = 9
+power_behind Shift = 10
+power_behind Sum = 11
+power_behind Product = 12
 
-abbrev pub with_cast_entry : Bool → ℕ → Entry
-with_cast_entry forbid power =
-    nodes_of (by_expr forbid false power (something ∷ []))
-    (with_cast_rows forbid power)
-    (kinds_only operand_kinds) (operand_ends forbid ++ places_in false power operators)
+abbrev pub closed_entry : Bool → Level → Entry
+closed_entry forbid level =
+    nodes_of (by_expr forbid false (power_behind level) (something ∷ [])) (closed_rows forbid level)
+    (kinds_only operand_kinds) (closed_follows forbid (power_behind level))
+
+abbrev pub with_cast_entry : Bool → Level → Entry
+with_cast_entry forbid level =
+    nodes_of (by_expr forbid false (power_behind level) (something ∷ [])) (with_cast_rows forbid level)
+    (kinds_only operand_kinds) (operand_ends forbid ++ places_in false (power_behind level) operators)
 
 abbrev pub range_read_by : Bool → Rule → List Outcome
 range_read_by forbid (knot.ExprBp r bp) =
@@ -223,11 +235,15 @@ range_end_entry forbid =
     nodes_of (range_read_by forbid) (range_end_rows forbid)
     (kinds_only operand_kinds) (operand_ends forbid)
 
-abbrev pub open_entry : ℕ → Entry
-open_entry power =
-    nodes_of (by_expr false false power (something ∷ []))
-    (open_rows power)
-    (kinds_only (operand_kinds ++ open_kinds)) (expr_ends false)
+abbrev pub open_or_entry : Entry
+open_or_entry =
+    nodes_of (by_expr false false 4 (something ∷ [])) open_or_rows (kinds_only (operand_kinds ++ open_kinds))
+    (expr_ends false)
+
+abbrev pub open_and_entry : Entry
+open_and_entry =
+    nodes_of (by_expr false false 5 (something ∷ [])) open_and_rows (kinds_only (operand_kinds ++ open_kinds))
+    (expr_ends false)
 
 abbrev pub expr_entry : Entry
 expr_entry =

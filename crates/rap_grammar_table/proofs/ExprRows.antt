@@ -11,8 +11,7 @@ use Rattle.rap_grammar_table.proofs.Refusal.{accepted}
 use Rattle.rap_grammar_table.proofs.Table.{table}
 use Rattle.rap_grammar_table.proofs.Hints.{Table}
 use Rattle.rap_grammar_table.proofs.Walk.{all_accepted}
-use Rattle.rap_grammar_table.specs.Notation.{same_flag}
-use Rattle.rap_grammar_table.proofs.Ways.{some_outcome}
+use Rattle.rap_grammar_table.proofs.Ways.{same_flag, some_outcome}
 use Rattle.rap_grammar_table.proofs.Entries.{is_read, EntryChecked}
 use Rattle.rap_grammar_table.proofs.Known.{same_number}
 use Rattle.rap_grammar_table.proofs.Pieces.{same_flags}

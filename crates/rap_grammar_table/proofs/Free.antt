@@ -6,6 +6,7 @@ use Rattle.rap_grammar_scripts.proofs.Forests.{message_count-⧺}
 use Rattle.rap_grammar_scripts.proofs.OneEnd.{one_end}
 use Rattle.rap_grammar_scripts.specs.Script.{Spot}
 use Rattle.rap_grammar_scripts.specs.declared.rule.Rule.{Rule}
+use Rattle.rap_grammar_table.specs.Category.{Category}
 use Rattle.rap_grammar_table.proofs.Good.{Good, good_category, Reads}
 use Rattle.rap_grammar_table.specs.Known.{Sees}
 use Rattle.rap_grammar_table.proofs.Hints.{Table}
@@ -14,12 +15,12 @@ use Rattle.rap_grammar_table.proofs.Ways.{some_outcome}
 use Rattle.rap_grammar_table.proofs.Sound.{Checked, claim}
 use Rattle.rap_grammar_table.proofs.Values.{none-⧺}
 
-read_alone : {t : Table} {c : ℕ} {ks l : List Record} {y : Forest} (r : Rule) → some_outcome (t.reads r c) ≡ true →
+read_alone : {t : Table} {c : Category} {ks l : List Record} {y : Forest} (r : Rule) → some_outcome (t.reads r c) ≡ true →
     Good t (cat c) ks y l → Reads t r c ks y l none []
 read_alone r h (good_category x n p o z) = z r none [] h
 
 -- the same tokens of a category have one tree, before tokens that may follow
-pub unique : {t : Table} → Checked t → (c : ℕ) (r : Rule) → some_outcome (t.reads r c) ≡ true → {ks : List Record}
+pub unique : {t : Table} → Checked t → (c : Category) (r : Rule) → some_outcome (t.reads r c) ≡ true → {ks : List Record}
     {y z : Forest} → Derives t.rows (one (cat c)) ks y → Derives t.rows (one (cat c)) ks z → (l : List Record) → Sees (t.follows c) l → y ≡ z
 unique o c r h {y = y} {z = z} d e l s =
     let m = read_alone r h (claim o d l s) in

@@ -21,7 +21,7 @@ use Rattle.rap_grammar_scripts.specs.Visibility.{opt_visibility}
 use Rattle.rap_grammar_scripts.specs.declared.arguments.Semicolon.TheVariants as semicolon
 use Rattle.rap_grammar_scripts.specs.declared.rule.Rule.{Rule}
 use Rattle.rap_grammar_table.specs.Rows.{grammar}
-use Rattle.rap_grammar_table.specs.Categories.{AnchoredPath, AssocItems, Block, Expr, ExternItems, FrontStmt, GlobalPath, Item, ItemList, LastStmt, MatchArms, Meta, Path, Pattern, RecordFields, RecordValues, SinglePattern, TokenTree, Ty, UseTrees, Variants, Visibility}
+use Rattle.rap_grammar_table.specs.Category.{AnchoredPath, AssocItems, Block, Expr, ExternItems, FrontStmt, GlobalPath, Item, ItemList, LastStmt, MatchArms, Meta, Path, Pattern, RecordFields, RecordValues, SinglePattern, TokenTree, Ty, UseTrees, Variants, Visibility, Category}
 use Rattle.rap_grammar_table.specs.Fronts.{any_but, MakesBefore}
 use Rattle.rap_grammar_table.proofs.Good.{Good, good_category, IsNode}
 use Rattle.rap_grammar_table.specs.Known.{Place, Sees, this_way, anything}
@@ -44,7 +44,7 @@ use Rattle.rap_grammar_table.proofs.Tests.{tests}
 use Rattle.rap_grammar_table.proofs.Values.{none-⧺}
 
 -- a category's tokens and their tree, before what may follow the category
-abbrev pub MakesFront : ℕ → List Record → List Record → Forest → Type 0
+abbrev pub MakesFront : Category → List Record → List Record → Forest → Type 0
 MakesFront category front rest tree = MakesBefore (table.follows category) category front rest tree
 
 only_something : (v : Outcome) → has_outcome (something ∷ []) v ≡ true → v ≡ something
@@ -81,53 +81,53 @@ pub row_made : (is : Items) (g : List (List Place)) {ks l : List Record} {y : Fo
 row_made is g s h w d e b = rw none-⧺ at (row_adds is g s h w d e none b)
 
 -- of a category by its rows, and of one that a rule reads
-abbrev followed_so : ℕ → List (List Place) → Bool
+abbrev followed_so : Category → List (List Place) → Bool
 followed_so c g = all_rows (λ is. followed table is g g) (grammar c)
 
-abbrev rows_so : List (List Place) → Script Rule → ℕ → Verdict
+abbrev rows_so : List (List Place) → Script Rule → Category → Verdict
 rows_so g s c = all_accepted (reads_so g s) (grammar c)
 
-by_rows_add : (c : ℕ) (g : List (List Place)) {ks l : List Record} {y : Forest} (s : Script Rule) →
+by_rows_add : (c : Category) (g : List (List Place)) {ks l : List Record} {y : Forest} (s : Script Rule) →
     rows_so g s c ≡ accepted → followed_so c g ≡ true → Makes c ks y → Sees g l → AddsOf s ks l y
 by_rows_add c g s h w (by_row {row = row} n e d) i =
     row_adds row g s (of_accepted (reads_so g s) (grammar c) n row h e)
     (of_all (λ is. followed table is g g) (grammar c) n row w e) d i
 
-by_rows_made : (c : ℕ) (g : List (List Place)) {ks l : List Record} {y : Forest} (s : Script Rule) →
+by_rows_made : (c : Category) (g : List (List Place)) {ks l : List Record} {y : Forest} (s : Script Rule) →
     rows_so g s c ≡ accepted → followed_so c g ≡ true → Makes c ks y → Sees g l → MakesOf s ks l y
 by_rows_made c g s h w d i b = rw none-⧺ at (by_rows_add c g s h w d i none b)
 
 -- and its tokens begin as they must
-abbrev begins_so : ℕ → List (List Place) → Bool
+abbrev begins_so : Category → List (List Place) → Bool
 begins_so c g = all_rows (λ is. says (look table is g) (table.firsts c)) (grammar c)
 
-by_rows_seen : (c : ℕ) (g : List (List Place)) {ks l : List Record} {y : Forest} → followed_so c g ≡ true →
+by_rows_seen : (c : Category) (g : List (List Place)) {ks l : List Record} {y : Forest} → followed_so c g ≡ true →
     begins_so c g ≡ true → Makes c ks y → Sees g l → Sees (table.firsts c) (ks ++ l)
 by_rows_seen c g {ks = ks} {l = l} w h (by_row {row = row} n e d) i =
     let m = claim checked d g l i (of_all (λ is. followed table is g g) (grammar c) n row w e) in
     weaker (look table row g) (table.firsts c) (ks ++ l)
     (of_all (λ is. says (look table is g) (table.firsts c)) (grammar c) n row h e) (seen table g m.made i)
 
-pub category_row : (c : ℕ) {ks : List Record} {y : Forest} → Makes c ks y → MakesRow (piece (cat c) nil) ks y
+pub category_row : (c : Category) {ks : List Record} {y : Forest} → Makes c ks y → MakesRow (piece (cat c) nil) ks y
 category_row c d = rw (append-nil, none-⧺) at (put {x = none} d ended)
 
-category_made : (c : ℕ) (g : List (List Place)) {ks l : List Record} {y : Forest} (s : Script Rule) →
+category_made : (c : Category) (g : List (List Place)) {ks l : List Record} {y : Forest} (s : Script Rule) →
     reads_so g s (piece (cat c) nil) ≡ accepted → followed table (piece (cat c) nil) g g ≡ true → Makes c ks y →
     Sees g l → MakesOf s ks l y
 category_made c g s h w d i = row_made (piece (cat c) nil) g s h w (category_row c d) i
 
 -- it is one node, and has no message
-node_of : (c : ℕ) {ks l : List Record} {y : Forest} → table.is_node c ≡ true → Good table (cat c) ks y l → IsNode y
+node_of : (c : Category) {ks l : List Record} {y : Forest} → table.is_node c ≡ true → Good table (cat c) ks y l → IsNode y
 node_of c h (good_category x n u o z) = n h
 
-pub node_made : (c : ℕ) {ks : List Record} {y : Forest} (l : List Record) → table.is_node c ≡ true →
+pub node_made : (c : Category) {ks : List Record} {y : Forest} (l : List Record) → table.is_node c ≡ true →
     Sees (table.follows c) l → Makes c ks y → IsNode y
 node_made c l h s d = node_of c h (claim checked d l s)
 
 pub row_clean : {is : Items} {ks : List Record} {y : Forest} → MakesRow is ks y → message_count y ≡ 0
 row_clean d = clean d refl tt
 
-pub category_clean : {c : ℕ} {ks : List Record} {y : Forest} → Makes c ks y → message_count y ≡ 0
+pub category_clean : {c : Category} {ks : List Record} {y : Forest} → Makes c ks y → message_count y ≡ 0
 category_clean d = clean d
 
 -- types, expressions, patterns, and what stands in an attribute
@@ -239,7 +239,7 @@ last_stmt_front d =
 pub sees_anything : (l : List Record) → Sees anything l
 sees_anything l = this_way (record { fits = λ n. record { kinds = refl; words = refl; joint = refl } })
 
-part_made : (c : ℕ) {ks : List Record} {y : Forest} (s : Script Rule) → rows_so anything s c ≡ accepted →
+part_made : (c : Category) {ks : List Record} {y : Forest} (s : Script Rule) → rows_so anything s c ≡ accepted →
     followed_so c anything ≡ true → (l : List Record) → Makes c ks y → MakesOf s ks l y
 part_made c s h w l d = by_rows_made c anything s h w d (sees_anything l)
 

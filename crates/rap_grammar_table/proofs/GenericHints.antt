@@ -9,7 +9,7 @@ use Rattle.rap_grammar_table.proofs.Entry.{Entry, text, read_text}
 use Rattle.rap_grammar_table.proofs.Evaluate.{behind}
 use Rattle.rap_grammar_table.proofs.Narrow.{each, narrowed}
 use Rattle.rap_grammar_table.proofs.SharedHints.{attr_heads, type_firsts}
-use Rattle.rap_grammar_table.specs.Categories.{literals}
+use Rattle.rap_grammar_table.specs.SharedRows.{literals}
 use Rattle.rap_grammar_table.specs.GenericRows.{argument_rows, param_rows, generics_rows, predicate_rows, where_rows}
 use Rattle.rap_grammar_table.specs.Known.{Place, anything}
 use Rattle.rap_grammar_table.specs.Notation.{of_kinds}

@@ -9,6 +9,7 @@ use Rattle.rap_grammar_scripts.specs.Knot.{script_of}
 use Rattle.rap_grammar_scripts.specs.Script.{Outcome, Runs, Script}
 use Rattle.rap_grammar_scripts.specs.Test.{Test, holds}
 use Rattle.rap_grammar_scripts.specs.declared.rule.Rule.{Rule}
+use Rattle.rap_grammar_table.specs.Category.{Category}
 use Rattle.rap_grammar_table.proofs.Hints.{Table}
 use Rattle.rap_grammar_table.proofs.Refusal.{accepted}
 use Rattle.rap_grammar_table.proofs.Walk.{reads_rows}
@@ -17,7 +18,7 @@ use Rattle.rap_grammar_table.specs.Known.{Place, among, within, Sees}
 use Rattle.rap_grammar_table.specs.Table.{Piece, tok, word, comp, cat, Items, nil, begin, close, piece, choice, repeat, turns_of, group, folds, folding, unless, appended, HasWay, Touching}
 
 -- a rule reads these tokens as this tree, before these tokens and after this forest
-pub record Reads (t : Table) (r : Rule) (c : ℕ) (ks : List Record) (u : Forest) (l : List Record) (f : Forest)
+pub record Reads (t : Table) (r : Rule) (c : Category) (ks : List Record) (u : Forest) (l : List Record) (f : Forest)
     (b : List Forest) : Type 0 where
   pub outcome : Outcome
   pub among_them : has_outcome (t.reads r c) outcome ≡ true
@@ -33,7 +34,7 @@ pub record ReadsBy (a : Script Rule) (vs : List Outcome) (ks : List Record) (u :
       (record { rest = l; forest = f ⧺ u; below = b }) outcome
 
 -- so does each script that reads all rows of the category, however deep categories nest in it
-abbrev pub ByRows : Table → ℕ → List Record → Forest → List Record → Type 0
+abbrev pub ByRows : Table → Category → List Record → Forest → List Record → Type 0
 ByRows t c ks u l =
     (n : ℕ) (a : Script Rule) (vs : List Outcome) (f : Forest) (b : List Forest) → reads_rows n t c a vs ≡ accepted →
     ReadsBy a vs ks u l f b
@@ -55,7 +56,7 @@ pub data Good (t : Table) : Piece → List Record → Forest → List Record →
   good_word : {k : ℕ} {r : Record} {l : List Record} → r.kind ≡ IDENT → r.contextual ≡ k →
       Good t (word k) (r ∷ []) (leaf none k 1) l
   good_operator : {k : ℕ} {rs l : List Record} → Touching (parts k) rs → Good t (comp k) rs (leaf none k (width k)) l
-  good_category : {c : ℕ} {ks l : List Record} {u : Forest} → Sees (t.firsts c) (ks ++ l) →
+  good_category : {c : Category} {ks l : List Record} {u : Forest} → Sees (t.firsts c) (ks ++ l) →
       (t.is_node c ≡ true → IsNode u) → (t.unbraced c ≡ true → IsUnbraced u) →
       (t.by_rows c ≡ true → ByRows t c ks u l) →
       ((r : Rule) (f : Forest) (b : List Forest) → some_outcome (t.reads r c) ≡ true → Reads t r c ks u l f b) →

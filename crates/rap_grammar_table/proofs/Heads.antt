@@ -13,7 +13,7 @@ use Rattle.rap_grammar_scripts.specs.Modules.{items, mod_contents}
 use Rattle.rap_grammar_scripts.specs.Script.{Outcome, Script, Spot, Runs, gives, passes, fails, takes, follows}
 use Rattle.rap_grammar_scripts.specs.Words.{◌▸◌, call, done, eat}
 use Rattle.rap_grammar_scripts.specs.declared.rule.Rule.{Rule}
-use Rattle.rap_grammar_table.specs.Categories.{Item}
+use Rattle.rap_grammar_table.specs.Category.{Item}
 use Rattle.rap_grammar_table.specs.Heads.{file_head, items_head}
 use Rattle.rap_grammar_table.specs.Known.{Place, Fits, Sees, among, place_at, this_way, later_way}
 use Rattle.rap_grammar_table.specs.Notation.{of_kinds}

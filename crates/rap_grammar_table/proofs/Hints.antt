@@ -1,7 +1,8 @@
 -- What the checker wants to know of a grammar.
-use Rattle.std.specs.Prelude.{ℕ, Bool, List}
+use Rattle.std.specs.Prelude.{Bool, List}
 use Rattle.rap_grammar_scripts.specs.Script.{Outcome}
 use Rattle.rap_grammar_scripts.specs.declared.rule.Rule.{Rule}
+use Rattle.rap_grammar_table.specs.Category.{Category}
 use Rattle.rap_grammar_table.specs.Known.{Place}
 use Rattle.rap_grammar_table.specs.Table.{Grammar}
 
@@ -10,10 +11,10 @@ use Rattle.rap_grammar_table.specs.Table.{Grammar}
 -- with which such a script does, to be tried in turn; and those with which a rule reads it, none where it does not.
 pub record Table : Type 0 where
   pub rows : Grammar
-  pub firsts : ℕ → List (List Place)
-  pub follows : ℕ → List (List Place)
-  pub is_node : ℕ → Bool
-  pub unbraced : ℕ → Bool
-  pub by_rows : ℕ → Bool
-  pub ends : ℕ → List (List Outcome)
-  pub reads : Rule → ℕ → List Outcome
+  pub firsts : Category → List (List Place)
+  pub follows : Category → List (List Place)
+  pub is_node : Category → Bool
+  pub unbraced : Category → Bool
+  pub by_rows : Category → Bool
+  pub ends : Category → List (List Outcome)
+  pub reads : Rule → Category → List Outcome

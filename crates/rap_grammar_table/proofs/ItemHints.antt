@@ -7,7 +7,8 @@ use Rattle.rap_grammar_scripts.specs.declared.rule.Rule.TheVariants as knot
 use Rattle.rap_grammar_table.proofs.Entry.{Entry, text, read_text, colons, of_names}
 use Rattle.rap_grammar_table.proofs.Evaluate.{behind}
 use Rattle.rap_grammar_table.proofs.SharedHints.{attr_heads, brackets}
-use Rattle.rap_grammar_table.specs.Categories.{UseTree, path_names, use_names}
+use Rattle.rap_grammar_table.specs.Category.{UseTree}
+use Rattle.rap_grammar_table.specs.SharedRows.{path_names, use_names}
 use Rattle.rap_grammar_table.specs.ItemRows.{visibility_rows, field_rows, fn_params_rows, variant_rows, use_tree_rows, call_words, item_rows}
 use Rattle.rap_grammar_table.specs.Known.{Place, unclear, anything}
 use Rattle.rap_grammar_table.specs.Notation.{Part, of_kinds}

@@ -30,6 +30,7 @@ pub mod LookLaws
 pub mod Narrow
 pub mod NarrowLaws
 pub mod Nodes
+pub mod Numbered
 pub mod OneTree
 pub mod Operands
 pub mod OperatorHints
@@ -39,6 +40,7 @@ pub mod Parts
 pub mod PatternHints
 pub mod PatternRows
 pub mod Pieces
+pub mod Places
 pub mod Refusal
 pub mod Refused
 pub mod Rows

@@ -7,7 +7,7 @@ use Rattle.rap_events.specs.Record.{Record, kind_at, contextual_at, joint_at}
 use Rattle.rap_grammar_scripts.proofs.OneEnd.{one_end}
 use Rattle.rap_grammar_scripts.specs.Script.{Script, Spot}
 use Rattle.rap_grammar_scripts.specs.declared.rule.Rule.{Rule}
-use Rattle.rap_grammar_table.specs.Categories.{AnchoredPath, AssocItems, Block, Expr, ExternItems, FrontStmt, GlobalPath, Item, ItemList, LastStmt, MatchArms, Meta, Path, Pattern, RecordFields, RecordValues, SinglePattern, TokenTree, Ty, UseTrees, Variants, Visibility}
+use Rattle.rap_grammar_table.specs.Category.{AnchoredPath, AssocItems, Block, Expr, ExternItems, FrontStmt, GlobalPath, Item, ItemList, LastStmt, MatchArms, Meta, Path, Pattern, RecordFields, RecordValues, SinglePattern, TokenTree, Ty, UseTrees, Variants, Visibility}
 use Rattle.rap_grammar_table.specs.Fronts.{any_but}
 use Rattle.rap_grammar_table.specs.Known.{Fits, Sees, place_at, this_way}
 use Rattle.rap_grammar_table.specs.Laws.{HasOneForest, HasOneTree}

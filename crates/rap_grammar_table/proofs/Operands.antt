@@ -14,7 +14,8 @@ use Rattle.rap_grammar_scripts.specs.ThroughKnot as through_knot
 use Rattle.rap_grammar_scripts.specs.Words as words
 use Rattle.rap_grammar_scripts.specs.declared.arguments.Restrictions.{Restrictions}
 use Rattle.rap_grammar_scripts.specs.declared.rule.Rule.{Rule}
-use Rattle.rap_grammar_table.specs.Categories.{Operand, OpenAtom}
+use Rattle.rap_grammar_table.proofs.Places.{same_category}
+use Rattle.rap_grammar_table.specs.Category.{Operand, OpenAtom}
 use Rattle.rap_grammar_table.proofs.Entry.{Entry}
 use Rattle.rap_grammar_table.proofs.Refusal.{Verdict, accepted, both, by_bool}
 use Rattle.rap_grammar_table.proofs.Table.{table}
@@ -52,7 +53,7 @@ abbrev pub read_with : Vouch → Entry → Rule → Items → Verdict
 read_with o e r row = reads_row_by o table e.follows (script_of r) (e.read_by r) row
 
 abbrev pub all_with : Entry → Rule → List Items → Verdict → Verdict → Verdict
-all_with e r rows v w = all_accepted (read_with (λ c a vs. by_bool (c == OpenAtom) (λ u. w) (λ u. v)) e r) rows
+all_with e r rows v w = all_accepted (read_with (λ c a vs. by_bool (same_category c OpenAtom) (λ u. w) (λ u. v)) e r) rows
 
 -- the operands are read, and the jumps and closures
 abbrev pub OperandsSo : Bool → Vouch → Type 0

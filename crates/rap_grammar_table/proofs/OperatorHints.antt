@@ -1,15 +1,16 @@
 -- What expressions begin with, and what goes on behind them.
 use Rattle.std.specs.Prelude.{ℕ, ◌==◌, ◌&&◌, ◌||◌, not, nat_lt, Bool, true, false, List, [], ◌∷◌, ◌++◌, Some, None}
-use Rattle.rap_base.specs.TokenKind.{EOF, SEMICOLON, COMMA, COLON, EQ, L_PAREN, R_PAREN, L_BRACK, R_BRACK, L_CURLY, R_CURLY, L_ANGLE, R_ANGLE, AMP, STAR, SLASH, PERCENT, CARET, BANG, MINUS, PLUS, PIPE, DOT, QUESTION, UNDERSCORE, LIFETIME_IDENT, INT_NUMBER, AS_KW, ASYNC_KW, AWAIT_KW, BECOME_KW, BREAK_KW, CONST_KW, CONTINUE_KW, ELSE_KW, FOR_KW, IF_KW, LOOP_KW, MATCH_KW, MOVE_KW, RETURN_KW, TRY_KW, UNSAFE_KW, WHERE_KW, WHILE_KW, YIELD_KW}
+use Rattle.rap_base.specs.TokenKind.{EOF, SEMICOLON, COMMA, COLON, EQ, L_PAREN, R_PAREN, L_BRACK, R_BRACK, L_CURLY, R_CURLY, L_ANGLE, R_ANGLE, AMP, STAR, SLASH, PERCENT, CARET, BANG, MINUS, PLUS, PIPE, DOT, QUESTION, UNDERSCORE, LIFETIME_IDENT, INT_NUMBER, AS_KW, ASYNC_KW, AWAIT_KW, BECOME_KW, BREAK_KW, CONST_KW, CONTINUE_KW, ELSE_KW, FOR_KW, IF_KW, LOOP_KW, MATCH_KW, MOVE_KW, RETURN_KW, TRY_KW, UNSAFE_KW, WHERE_KW, WHILE_KW, YIELD_KW, AMP2, PIPE2, SHL, SHLEQ}
 use Rattle.rap_events.specs.OperatorTable.{operators}
+use Rattle.rap_grammar_scripts.specs.First.{one_of}
 use Rattle.rap_grammar_table.proofs.Entry.{of_names, touching, colons}
 use Rattle.rap_grammar_table.proofs.Evaluate.{behind}
 use Rattle.rap_grammar_table.proofs.Look.{look_parts}
 use Rattle.rap_grammar_table.proofs.SharedHints.{brackets, global_heads}
-use Rattle.rap_grammar_table.specs.Categories.{literals, path_names}
+use Rattle.rap_grammar_table.specs.SharedRows.{literals, path_names}
 use Rattle.rap_grammar_table.specs.Known.{Place, never}
 use Rattle.rap_grammar_table.specs.Notation.{those, of_kinds}
-use Rattle.rap_grammar_table.specs.Operators.{doubled, if_kind, is_angled, expr_ends}
+use Rattle.rap_grammar_table.specs.Operators.{expr_ends}
 
 -- the first tokens of an operand, and of a jump or a closure
 abbrev pub block_kinds : List ℕ
@@ -28,6 +29,18 @@ open_kinds = RETURN_KW ∷ BREAK_KW ∷ YIELD_KW ∷ BECOME_KW ∷ PIPE ∷ MOVE
 
 abbrev pub right_kinds : List ℕ
 right_kinds = DOT ∷ (operand_kinds ++ open_kinds)
+
+-- an operator whose token twice is another operator, and that one
+abbrev pub doubled : List (ℕ × ℕ)
+doubled = (AMP, AMP2) ∷ (PIPE, PIPE2) ∷ (L_ANGLE, SHL) ∷ []
+
+abbrev pub if_kind : {A : Type 0} → Bool → A → A → A
+if_kind true x y = x
+if_kind false x y = y
+
+-- an operator that begins as generic arguments do
+abbrev pub is_angled : ℕ → Bool
+is_angled kind = one_of (L_ANGLE ∷ SHL ∷ SHLEQ ∷ []) kind
 
 abbrev pub alone_places : ℕ → List (ℕ × ℕ) → List (List Place)
 alone_places kind [] = (of_kinds (kind ∷ []) ∷ of_kinds right_kinds ∷ []) ∷ []

@@ -4,13 +4,12 @@ use Rattle.rap_events.proofs.Truth.{and_left, and_right}
 use Rattle.rap_grammar_scripts.specs.Script.{something}
 use Rattle.rap_grammar_scripts.specs.declared.rule.Rule.{Rule}
 use Rattle.rap_grammar_scripts.specs.declared.rule.Rule.TheVariants as knot
-use Rattle.rap_grammar_table.proofs.ExprHints.{assigned_entry, condition_entry, expr_entry, guard_entry, open_entry, range_end_entry, range_read_by}
+use Rattle.rap_grammar_table.proofs.ExprHints.{assigned_entry, condition_entry, expr_entry, guard_entry, open_or_entry, open_and_entry, range_end_entry, range_read_by}
 use Rattle.rap_grammar_table.proofs.Entry.{Entry}
 use Rattle.rap_grammar_table.proofs.Refusal.{accepted}
 use Rattle.rap_grammar_table.proofs.Table.{table}
 use Rattle.rap_grammar_table.proofs.Walk.{all_accepted}
-use Rattle.rap_grammar_table.specs.Notation.{same_flag}
-use Rattle.rap_grammar_table.proofs.Ways.{some_outcome}
+use Rattle.rap_grammar_table.proofs.Ways.{same_flag, some_outcome}
 use Rattle.rap_grammar_table.proofs.Entries.{is_read, EntryChecked}
 use Rattle.rap_grammar_table.proofs.ExprRows.{expr_rule, if_so, same_rule, read_by_expr}
 use Rattle.rap_grammar_table.proofs.Known.{by_or, same_number}
@@ -34,39 +33,39 @@ all_read n e forbid power c o =
     let r = expr_rule forbid false power in
     in_parts (is_read table e r) n e.rows (with_operands forbid e r (taking n e.rows) c.taken c.same) o
 
-open_4_first : Computed 1 (open_entry 4) false 4
+open_or_first : Computed 1 open_or_entry false 4
 unfolding climbing
-open_4_first = record { taken = refl; same = λ o. refl }
+open_or_first = record { taken = refl; same = λ o. refl }
 
-open_4_others : OthersSo 1 (open_entry 4) (expr_rule false false 4)
+open_or_others : OthersSo 1 open_or_entry (expr_rule false false 4)
 unfolding scripts tests
-open_4_others = refl
+open_or_others = refl
 
-pub open_4 : EntryChecked table (open_entry 4)
-open_4 =
+pub open_or : EntryChecked table open_or_entry
+open_or =
     record {
       reads =
-          read_by_expr table (open_entry 4) false false 4 (something ∷ [])
-          (all_read 1 (open_entry 4) false 4 open_4_first open_4_others);
+          read_by_expr table open_or_entry false false 4 (something ∷ [])
+          (all_read 1 open_or_entry false 4 open_or_first open_or_others);
       begins = refl;
       followed = refl;
       nodes = λ h. refl;
     }
 
-open_5_first : Computed 1 (open_entry 5) false 5
+open_and_first : Computed 1 open_and_entry false 5
 unfolding climbing
-open_5_first = record { taken = refl; same = λ o. refl }
+open_and_first = record { taken = refl; same = λ o. refl }
 
-open_5_others : OthersSo 1 (open_entry 5) (expr_rule false false 5)
+open_and_others : OthersSo 1 open_and_entry (expr_rule false false 5)
 unfolding scripts tests
-open_5_others = refl
+open_and_others = refl
 
-pub open_5 : EntryChecked table (open_entry 5)
-open_5 =
+pub open_and : EntryChecked table open_and_entry
+open_and =
     record {
       reads =
-          read_by_expr table (open_entry 5) false false 5 (something ∷ [])
-          (all_read 1 (open_entry 5) false 5 open_5_first open_5_others);
+          read_by_expr table open_and_entry false false 5 (something ∷ [])
+          (all_read 1 open_and_entry false 5 open_and_first open_and_others);
       begins = refl;
       followed = refl;
       nodes = λ h. refl;

@@ -2,9 +2,10 @@
 use Rattle.std.proofs.Common.{◌≡◌, ◌==◌, ◌&&◌, ◌||◌, ℕ, zero, suc, Bool, true, false, not, List, [], ◌∷◌, Option, Some, None, refl, ap}
 use Rattle.rap_base.specs.TokenKind.{L_CURLY}
 use Rattle.rap_events.proofs.Truth.{and_left, and_right}
+use Rattle.rap_grammar_table.proofs.Places.{same_category, same_category_so}
 use Rattle.rap_grammar_table.specs.Rows.{grammar}
 use Rattle.rap_grammar_table.specs.Again.{category_in, parsed_again}
-use Rattle.rap_grammar_table.specs.Categories.{AssocItems, Attr, Block, ExternItems, ItemList, MatchArms, RecordFields, RecordValues, TokenTree, UseTrees, Variants}
+use Rattle.rap_grammar_table.specs.Category.{AssocItems, Attr, Block, ExternItems, ItemList, MatchArms, RecordFields, RecordValues, TokenTree, UseTrees, Variants, Category}
 use Rattle.rap_grammar_table.specs.Known.{among}
 use Rattle.rap_grammar_table.specs.Shapes.{same_kinds}
 use Rattle.rap_grammar_table.specs.Table.{Piece, tok, word, comp, cat, Items, nil, begin, close, piece, choice, repeat, turns_of, group, folds, folding, way, unless, appended, row_at}
@@ -20,7 +21,7 @@ abbrev pub same_piece : Piece → Piece → Bool
 same_piece (tok ks v) (tok js w) = same_kinds ks js && same_words v w
 same_piece (word k) (word j) = k == j
 same_piece (comp k) (comp j) = k == j
-same_piece (cat c) (cat d) = c == d
+same_piece (cat c) (cat d) = same_category c d
 same_piece p q = false
 
 abbrev pub same_items : Items → Items → Bool
@@ -49,7 +50,7 @@ same_piece_so (tok ks v) (tok js w) h =
     refl
 same_piece_so (word k) (word j) h = ap (λ (n : ℕ). word n) (same_number k j h)
 same_piece_so (comp k) (comp j) h = ap (λ (n : ℕ). comp n) (same_number k j h)
-same_piece_so (cat c) (cat d) h = ap (λ (n : ℕ). cat n) (same_number c d h)
+same_piece_so (cat c) (cat d) h = ap (λ (n : Category). cat n) (same_category_so c d h)
 same_piece_so p q h = absurd cc
 
 pub same_items_so : (a b : Items) → same_items a b ≡ true → a ≡ b
@@ -77,7 +78,7 @@ same_items_so a b h = absurd cc
 
 -- A category's row that is followed so far by what stands in the newest open node, and what is left of it.
 pub record Followed : Type 0 where
-  pub category : ℕ
+  pub category : Category
   pub left : Items
 
 abbrev pub if_same : Bool → Followed → List Followed → List Followed
@@ -85,7 +86,7 @@ if_same true q qs = q ∷ qs
 if_same false q qs = qs
 
 -- past a piece, and past turns
-abbrev pub past_piece : Piece → ℕ → Items → List Followed → List Followed
+abbrev pub past_piece : Piece → Category → Items → List Followed → List Followed
 past_piece p c (piece q is) qs = if_same (same_piece q p) (record { category = c; left = is }) qs
 past_piece p c is qs = qs
 
@@ -93,7 +94,7 @@ abbrev pub step_piece : Piece → List Followed → List Followed
 step_piece p [] = []
 step_piece p (q ∷ qs) = past_piece p q.category q.left (step_piece p qs)
 
-abbrev pub past_turns : Items → Items → ℕ → Items → List Followed → List Followed
+abbrev pub past_turns : Items → Items → Category → Items → List Followed → List Followed
 past_turns a z c (repeat b y is) qs =
     if_same (same_items b a && same_items y z) (record { category = c; left = is }) qs
 past_turns a z c is qs = qs
@@ -103,11 +104,11 @@ step_turns a z [] = []
 step_turns a z (q ∷ qs) = past_turns a z q.category q.left (step_turns a z qs)
 
 -- one of them ends with the node, under its kind
-abbrev pub is_category : Option ℕ → ℕ → Bool
+abbrev pub is_category : Option Category → Category → Bool
 is_category None c = false
-is_category (Some d) c = d == c
+is_category (Some d) c = same_category d c
 
-abbrev pub ends_one : ℕ → ℕ → Items → Bool
+abbrev pub ends_one : ℕ → Category → Items → Bool
 ends_one k c (close j nil) = (j == k) && is_category (category_in parsed_again k) c
 ends_one k c is = false
 
@@ -115,7 +116,7 @@ abbrev pub ends_some : ℕ → List Followed → Bool
 ends_some k [] = false
 ends_some k (q ∷ qs) = ends_one k q.category q.left || ends_some k qs
 
-abbrev pub is_none : Option ℕ → Bool
+abbrev pub is_none : Option Category → Bool
 is_none None = true
 is_none (Some c) = false
 
@@ -123,7 +124,7 @@ is_none (Some c) = false
 abbrev pub no_brace_first : Items → Bool
 no_brace_first (begin is) = no_brace_first is
 no_brace_first (piece (tok kinds words) is) = not (among kinds L_CURLY)
-no_brace_first (piece (cat c) is) = c == Attr
+no_brace_first (piece (cat c) is) = same_category c Attr
 no_brace_first is = false
 
 -- that is told of the newest open node where nothing is in it yet
@@ -141,7 +142,7 @@ abbrev pub behind_begin : Option Items → Items
 behind_begin (Some (begin is)) = is
 behind_begin r = nil
 
-abbrev pub followed_from : ℕ → ℕ → Followed
+abbrev pub followed_from : Category → ℕ → Followed
 followed_from c n = record { category = c; left = behind_begin (row_at n (grammar c)) }
 
 abbrev pub all_followed : List Followed

@@ -4,6 +4,7 @@ use Rattle.rap_events.specs.Forest.{Forest, none, ◌⧺◌}
 use Rattle.rap_events.specs.Record.{Record}
 use Rattle.rap_grammar_scripts.specs.Script.{Script, Outcome}
 use Rattle.rap_grammar_scripts.specs.declared.rule.Rule.{Rule}
+use Rattle.rap_grammar_table.specs.Category.{Category}
 use Rattle.rap_grammar_table.proofs.Built.{Built, At, with_row, at_start, after_category, after_piece}
 use Rattle.rap_grammar_table.proofs.Good.{IsNode, IsUnbraced, Made, made_group}
 use Rattle.rap_grammar_table.specs.Known.{Place, Sees}
@@ -61,7 +62,7 @@ Walks t a w =
 -- a category whose rows the script reads
 rows_read : (t : Table) (deep : ℕ) (l : List Record) (e : List Forest) (y f : Forest) (b : List Forest) (a : Script Rule)
     (s : At) (k : Outcome → At → Verdict) {ks : List Record} {left : List Forest} → AreNodes e s.nodes →
-    drop s.count e ≡ left → (c : ℕ) (is : Items) (x : Built) (xs : List Built) →
+    drop s.count e ≡ left → (c : Category) (is : Items) (x : Built) (xs : List Built) →
     Front t l (cat c) is (value none e x) (values none e [] xs) left ks y → t.by_rows c ≡ true →
     with_outcomes (reads_rows deep t c a) (t.ends c)
     (λ v. k v (after_category (with_row s (piece (cat c) is) x xs) is (t.is_node c) (t.unbraced c))) ≡ accepted →

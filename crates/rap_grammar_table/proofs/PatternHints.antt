@@ -8,7 +8,8 @@ use Rattle.rap_grammar_table.proofs.Entry.{Entry, text, read_text, of_names, tou
 use Rattle.rap_grammar_table.proofs.Evaluate.{behind}
 use Rattle.rap_grammar_table.proofs.SharedHints.{global_heads}
 use Rattle.rap_grammar_table.proofs.Walk.{outcome_guesses}
-use Rattle.rap_grammar_table.specs.Categories.{Pattern, literals, path_names}
+use Rattle.rap_grammar_table.specs.Category.{Pattern}
+use Rattle.rap_grammar_table.specs.SharedRows.{literals, path_names}
 use Rattle.rap_grammar_table.specs.Known.{Place}
 use Rattle.rap_grammar_table.specs.Notation.{rows_of, of_kinds}
 use Rattle.rap_grammar_table.specs.PatternRows.{type_colon, pattern_ends, pattern_follows, single_follows, single_rows, rest_rows, or_rows, param_pattern_rows}

@@ -12,6 +12,7 @@ use Rattle.rap_grammar_scripts.specs.Knot.{script_of}
 use Rattle.rap_grammar_scripts.specs.Script.{Script, Outcome, nothing, something, block, again, Spot, Runs, finishes, extends, abandons, precedes, finish, extend, abandon, precede, last_tree, last_kind}
 use Rattle.rap_grammar_scripts.specs.Test.{kind_so}
 use Rattle.rap_grammar_scripts.specs.declared.rule.Rule.{Rule}
+use Rattle.rap_grammar_table.specs.Category.{Category}
 use Rattle.rap_grammar_table.proofs.Built.{Built, base, empty, over, tree, is_own, joined, At, with_row, with_own, after_category, after_piece}
 use Rattle.rap_grammar_table.proofs.Good.{Good, good_token, good_word, good_operator, good_category, IsNode, IsUnbraced, Made, made_piece, Reads, ByRows}
 use Rattle.rap_grammar_table.specs.Known.{Answer, sure, never, unclear, Place, agrees, among, within, Sees, this_way, anything}
@@ -21,8 +22,7 @@ use Rattle.rap_grammar_table.proofs.Narrow.{Fact, left_by, AreSo}
 use Rattle.rap_grammar_table.proofs.Refusal.{Word, obeys, stopped, Verdict, accepted}
 use Rattle.rap_grammar_table.proofs.Hints.{Table}
 use Rattle.rap_grammar_table.specs.Table.{Piece, tok, word, comp, cat, Items, piece, Touching, last_part, next_part}
-use Rattle.rap_grammar_table.proofs.Ways.{expose, front, no_parts, is_sure, has_kind, is_token, is_some, is_bearer, every_outcome, some_outcome, read_piece, read_rule, finish_own, extend_own, abandon_own, precede_own, has_outcome, same_outcome}
-use Rattle.rap_grammar_table.specs.Notation.{same_flag}
+use Rattle.rap_grammar_table.proofs.Ways.{expose, front, no_parts, is_sure, has_kind, is_token, is_some, is_bearer, every_outcome, some_outcome, read_piece, read_rule, finish_own, extend_own, abandon_own, precede_own, has_outcome, same_outcome, same_flag}
 use Rattle.rap_grammar_table.proofs.Exposes.{exposed_at}
 use Rattle.rap_grammar_table.proofs.Known.{agrees_all, nothing_known, by_or, every_so, same_number}
 use Rattle.rap_grammar_table.proofs.LookLaws.{piece_seen, same_self}
@@ -253,13 +253,13 @@ pub record Reading (t : Table) (l : List Record) (e : List Forest) (y f : Forest
   pub stands : Stands t l e y place rest
   pub run : Runs script_of (script_of r) (spot_at f b e s (ks ++ l)) (spot_at f b e place (rest ++ l)) outcome
 
-pub record GoodCategory (t : Table) (c : ℕ) (ks : List Record) (u : Forest) (l : List Record) : Type 0 where
+pub record GoodCategory (t : Table) (c : Category) (ks : List Record) (u : Forest) (l : List Record) : Type 0 where
   pub node : t.is_node c ≡ true → IsNode u
   pub unbraced : t.unbraced c ≡ true → IsUnbraced u
   pub rows : t.by_rows c ≡ true → ByRows t c ks u l
   pub reads : (r : Rule) (f : Forest) (b : List Forest) → some_outcome (t.reads r c) ≡ true → Reads t r c ks u l f b
 
-pub of_category : {t : Table} {c : ℕ} {ks l : List Record} {u : Forest} → Good t (cat c) ks u l → GoodCategory t c ks u l
+pub of_category : {t : Table} {c : Category} {ks l : List Record} {u : Forest} → Good t (cat c) ks u l → GoodCategory t c ks u l
 of_category (good_category a n p o z) = record { node = n; unbraced = p; rows = o; reads = z }
 
 read_category : (t : Table) (l : List Record) (e : List Forest) (y f : Forest) (b : List Forest) (r : Rule)

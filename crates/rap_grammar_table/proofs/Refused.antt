@@ -9,7 +9,8 @@ use Rattle.rap_grammar_scripts.specs.declared.arguments.Semicolon.TheVariants as
 use Rattle.rap_grammar_scripts.specs.declared.rule.Rule.TheVariants as knot
 use Rattle.rap_grammar_scripts.specs.Test.{negated}
 use Rattle.rap_grammar_scripts.specs.Types.{type_with_bounds_cond}
-use Rattle.rap_grammar_table.specs.Categories.{Ty, PlainTy, Args, Item, Block, Expr, Stmt, Attr, ArgList, Atom, Operand, Closed, lifetime, name}
+use Rattle.rap_grammar_table.specs.Category.{Ty, PlainTy, Args, Item, Block, Expr, Stmt, Attr, ArgList, Atom, Operand, Closed, Level, Product, Sum}
+use Rattle.rap_grammar_table.specs.SharedRows.{lifetime, name}
 use Rattle.rap_grammar_table.specs.ExprRows.{field_part}
 use Rattle.rap_grammar_table.specs.ItemRows.{opt_visibility, restriction, restricts}
 use Rattle.rap_grammar_table.proofs.Lasts.{ends_plain}
@@ -126,22 +127,22 @@ abbrev as_expr : Part → Bool
 as_expr a =
     is_accepted (reads_row table (table.follows Expr) (script_of (expr_rule false false 1)) (something ∷ []) (row a))
 
-abbrev sum_of : ℕ → ℕ → ℕ → Part
+abbrev sum_of : ℕ → ℕ → Level → Part
 sum_of kind operator right = c (Operand false) ⊳ around 12 (turn (12 ∷ []) kind (t operator ⊳ c (Closed false right)) 10)
 
-a_sum : as_expr (sum_of BIN_EXPR PLUS 11) ≡ true
+a_sum : as_expr (sum_of BIN_EXPR PLUS Sum) ≡ true
 unfolding scripts tests
 a_sum = refl
 
-wrong_power : as_expr (sum_of BIN_EXPR PLUS 12) ≡ false
+wrong_power : as_expr (sum_of BIN_EXPR PLUS Product) ≡ false
 unfolding scripts tests
 wrong_power = refl
 
-wrong_node : as_expr (sum_of CAST_EXPR PLUS 11) ≡ false
+wrong_node : as_expr (sum_of CAST_EXPR PLUS Sum) ≡ false
 unfolding scripts tests
 wrong_node = refl
 
-no_operator : as_expr (sum_of BIN_EXPR QUESTION 11) ≡ false
+no_operator : as_expr (sum_of BIN_EXPR QUESTION Sum) ≡ false
 unfolding scripts tests
 no_operator = refl
 
@@ -159,8 +160,8 @@ attribute_outside = refl
 tighter_later :
     followed table (row (c (Operand false) ⊳
     around 12
-    (turn (12 ∷ []) BIN_EXPR (t PLUS ⊳ c (Closed false 11)) 12 ⊳
-    turn (12 ∷ []) BIN_EXPR (t STAR ⊳ c (Closed false 12)) 12))) (table.follows Expr) (table.follows Expr) ≡ false
+    (turn (12 ∷ []) BIN_EXPR (t PLUS ⊳ c (Closed false Sum)) 12 ⊳
+    turn (12 ∷ []) BIN_EXPR (t STAR ⊳ c (Closed false Product)) 12))) (table.follows Expr) (table.follows Expr) ≡ false
 tighter_later = refl
 
 -- two categories are not one node

@@ -5,6 +5,7 @@ use Rattle.rap_events.specs.Forest.{Forest, none, node, leaf, message, split, �
 use Rattle.rap_events.specs.Record.{Record}
 use Rattle.rap_grammar_ends.specs.StandsIn.{NodeAt, last_node, in_last_node, before_node, before_leaf, before_message, before_split}
 use Rattle.rap_grammar_scripts.specs.Test.{Test}
+use Rattle.rap_grammar_table.specs.Category.{Category}
 use Rattle.rap_grammar_table.specs.Rows.{grammar}
 use Rattle.rap_grammar_table.specs.Known.{Place}
 use Rattle.rap_grammar_table.specs.Shapes.{Child, node_child, children_of, Shape, Spells, a_leaf, turns, piece_shape}
@@ -46,7 +47,7 @@ found H (before_split p) a = found H p a
 
 -- The rest of a row fits what stands in the newest open node and in the older ones: whatever its pieces are, each node
 -- that it ends is as is known of its kind, and the whole is of this shape.
-pub data Fits (f : ℕ → Shape) (H : OfChildren) : Items → Forest → List Forest → Shape → Type 0 where
+pub data Fits (f : Category → Shape) (H : OfChildren) : Items → Forest → List Forest → Shape → Type 0 where
   fits_nil : {x : Forest} {y : Shape} → Spells y (children_of x) → Fits f H nil x [] y
   fits_begin : {is : Items} {x : Forest} {xs : List Forest} {y : Shape} → Fits f H is none (x ∷ xs) y →
       Fits f H (begin is) x xs y
@@ -80,82 +81,82 @@ pub data Fits (f : ℕ → Shape) (H : OfChildren) : Items → Forest → List F
 abbrev Comes : OfChildren → Shape → Forest → Type 0
 Comes H y x = AllSo H x × Spells y (children_of x)
 
-abbrev Claim : (ℕ → Shape) → OfChildren → Goal → Forest → Type 0
+abbrev Claim : (Category → Shape) → OfChildren → Goal → Forest → Type 0
 Claim f H (one p) y = Comes H (piece_shape f p) y
 Claim f H (rest_of is x xs) y =
     (w : Shape) → Fits f H is x xs w → AllSo H x → EachSo H xs → Comes H w y
 
-at_end : {f : ℕ → Shape} {H : OfChildren} {x : Forest} {w : Shape} → Fits f H nil x [] w → AllSo H x → Comes H w x
+at_end : {f : Category → Shape} {H : OfChildren} {x : Forest} {w : Shape} → Fits f H nil x [] w → AllSo H x → Comes H w x
 at_end (fits_nil s) a = (a, s)
 
-at_begin : {f : ℕ → Shape} {H : OfChildren} {is : Items} {x : Forest} {xs : List Forest} {w : Shape} →
+at_begin : {f : Category → Shape} {H : OfChildren} {is : Items} {x : Forest} {xs : List Forest} {w : Shape} →
     Fits f H (begin is) x xs w → Fits f H is none (x ∷ xs) w
 at_begin (fits_begin g) = g
 
-at_close : {f : ℕ → Shape} {H : OfChildren} {k : ℕ} {is : Items} {x z : Forest} {xs : List Forest} {w : Shape} →
+at_close : {f : Category → Shape} {H : OfChildren} {k : ℕ} {is : Items} {x z : Forest} {xs : List Forest} {w : Shape} →
     Fits f H (close k is) x (z ∷ xs) w → H k (children_of x) × Fits f H is (node z k x) xs w
 at_close (fits_close h g) = (h, g)
 
-at_piece : {f : ℕ → Shape} {H : OfChildren} {p : Piece} {is : Items} {x : Forest} {xs : List Forest} {w : Shape} →
+at_piece : {f : Category → Shape} {H : OfChildren} {p : Piece} {is : Items} {x : Forest} {xs : List Forest} {w : Shape} →
     Fits f H (piece p is) x xs w → (u : Forest) → Spells (piece_shape f p) (children_of u) →
     Fits f H is (x ⧺ u) xs w
 at_piece (fits_piece g) = g
 
-at_choice : {f : ℕ → Shape} {H : OfChildren} {a b is : Items} {x : Forest} {xs : List Forest} {w : Shape} →
+at_choice : {f : Category → Shape} {H : OfChildren} {a b is : Items} {x : Forest} {xs : List Forest} {w : Shape} →
     Fits f H (choice a b is) x xs w → Fits f H (appended a is) x xs w × Fits f H (appended b is) x xs w
 at_choice (fits_choice g h) = (g, h)
 
-at_guard : {f : ℕ → Shape} {H : OfChildren} {h : Test} {v : List (List Place)} {is : Items} {x : Forest}
+at_guard : {f : Category → Shape} {H : OfChildren} {h : Test} {v : List (List Place)} {is : Items} {x : Forest}
     {xs : List Forest} {w : Shape} → Fits f H (unless h v is) x xs w → Fits f H is x xs w
 at_guard (fits_unless g) = g
 
-at_repeat : {f : ℕ → Shape} {H : OfChildren} {a z is : Items} {x : Forest} {xs : List Forest} {w : Shape}
+at_repeat : {f : Category → Shape} {H : OfChildren} {a z is : Items} {x : Forest} {xs : List Forest} {w : Shape}
     (u y : Forest) → Fits f H (repeat a z is) x xs w →
     ((v : Shape) → Fits f H (turns_of a z) none [] v → Comes H v u) →
     (Fits f H is (x ⧺ u) xs w → AllSo H u → Comes H w y) → Comes H w y
 at_repeat u y (fits_repeat {v = v} g h) t r = let q = t v g in r (h u q.1) q.0
 
-at_group : {f : ℕ → Shape} {H : OfChildren} {a is : Items} {x : Forest} {xs : List Forest} {w : Shape}
+at_group : {f : Category → Shape} {H : OfChildren} {a is : Items} {x : Forest} {xs : List Forest} {w : Shape}
     (u y : Forest) → Fits f H (group a is) x xs w → ((v : Shape) → Fits f H a none [] v → Comes H v u) →
     (Fits f H is (x ⧺ u) xs w → AllSo H u → Comes H w y) → Comes H w y
 at_group u y (fits_group {v = v} g h) t r = let q = t v g in r (h u q.1) q.0
 
-at_last : {f : ℕ → Shape} {H : OfChildren} {a z : Items} {w : Shape} (y : Forest) →
+at_last : {f : Category → Shape} {H : OfChildren} {a z : Items} {w : Shape} (y : Forest) →
     Fits f H (turns_of a z) none [] w → ((v : Shape) → Fits f H z none [] v → Comes H v y) → Comes H w y
 at_last y (fits_turns {v = v} {w = w} g h) r = let q = r w h in (q.0, spells_last v w q.1)
 
-at_turn : {f : ℕ → Shape} {H : OfChildren} {a z : Items} {w : Shape} (x y : Forest) →
+at_turn : {f : Category → Shape} {H : OfChildren} {a z : Items} {w : Shape} (x y : Forest) →
     Fits f H (turns_of a z) none [] w → ((v : Shape) → Fits f H a none [] v → Comes H v x) → Comes H w y →
     Comes H w (x ⧺ y)
 at_turn {H = H} x y (fits_turns {v = v} {w = w} g h) r s =
     let q = r v g in (all_so-⧺ H x y q.0 s.0, rw (children-⧺ x y) (spells_turn v w q.1 s.1))
 
-at_folded : {f : ℕ → Shape} {H : OfChildren} {n : ℕ} {ws : Items} {x : Forest} {w : Shape} →
+at_folded : {f : Category → Shape} {H : OfChildren} {n : ℕ} {ws : Items} {x : Forest} {w : Shape} →
     Fits f H (folding n ws) x [] w → AllSo H x → Comes H w x
 at_folded (fits_folding g s) a = (a, s)
 
-at_more : {f : ℕ → Shape} {H : OfChildren} {n m : ℕ} {is : List ℕ} {ws a : Items} {x : Forest} {w : Shape}
+at_more : {f : Category → Shape} {H : OfChildren} {n m : ℕ} {is : List ℕ} {ws a : Items} {x : Forest} {w : Shape}
     (c u : Forest) → Fits f H (folding n ws) x [] w → HasWay ws is a m →
     (Fits f H a x (none ∷ []) w → Comes H w c) → (Fits f H (folding m ws) c [] w → AllSo H c → Comes H w u) →
     Comes H w u
 at_more {x = x} c u (fits_folding g s) v d e = let q = d (g _ _ _ v x s) in e (fits_folding g q.1) q.0
 
-at_folds : {f : ℕ → Shape} {H : OfChildren} {n j : ℕ} {ws is : Items} {x c : Forest} {xs : List Forest} {w : Shape}
+at_folds : {f : Category → Shape} {H : OfChildren} {n j : ℕ} {ws is : Items} {x c : Forest} {xs : List Forest} {w : Shape}
     (u y : Forest) → Fits f H (folds n ws is) (node x j c) xs w →
     ((l : Shape) → Fits f H (folding n ws) (node none j c) [] l → Comes H l u) →
     (Fits f H is (x ⧺ u) xs w → AllSo H u → Comes H w y) → Comes H w y
 at_folds u y (fits_folds {l = l} g s h) d e = let q = d l (fits_folding g s) in e (h u q.1) q.0
 
 -- each row of a category fits, and the whole is of the category's shape
-pub record RowFits (f : ℕ → Shape) (H : OfChildren) (category : ℕ) (row : Items) : Type 0 where
+pub record RowFits (f : Category → Shape) (H : OfChildren) (category : Category) (row : Items) : Type 0 where
   pub whole : Shape
   pub fits : Fits f H row none [] whole
   pub is_within : within whole (f category) ≡ true
 
-abbrev pub RowsFit : (ℕ → Shape) → OfChildren → Type 0
-RowsFit f H = (category n : ℕ) (row : Items) → row_at n (grammar category) ≡ Some row → RowFits f H category row
+abbrev pub RowsFit : (Category → Shape) → OfChildren → Type 0
+RowsFit f H = (category : Category) (n : ℕ) (row : Items) → row_at n (grammar category) ≡ Some row → RowFits f H category row
 
-pub shaped : {f : ℕ → Shape} {H : OfChildren} {g : Goal} {ks : List Record} {y : Forest} → RowsFit f H →
+pub shaped : {f : Category → Shape} {H : OfChildren} {g : Goal} {ks : List Record} {y : Forest} → RowsFit f H →
     Derives grammar g ks y → Claim f H g y
 shaped {f = f} o (by_row {c = c} {row = row} n e d) =
     let r = o c n row e in let q = shaped o d r.whole r.fits tt tt in

@@ -3,13 +3,17 @@ use Rattle.std.proofs.Common.{◌≡◌, ◌==◌, ◌&&◌, ◌⊎◌, inl, inr
 use Rattle.rap_events.proofs.Truth.{and_left, and_right, or_left}
 use Rattle.rap_events.specs.Forest.{Forest, none, node, ◌⧺◌}
 use Rattle.rap_grammar_scripts.proofs.Forests.{⧺-assoc}
-use Rattle.rap_grammar_table.specs.Rows.{rows_at}
+use Rattle.rap_grammar_table.proofs.Numbered.{at_number}
+use Rattle.rap_grammar_table.proofs.Places.{each_so, every, of_place}
+use Rattle.rap_grammar_table.specs.Numbers.{categories, number}
+use Rattle.rap_grammar_table.specs.Category.{Category}
+use Rattle.rap_grammar_table.specs.Rows.{grammar}
 use Rattle.rap_grammar_table.specs.Shapes.{Child, node_child, children_of, Shape, nothing, leaf_of, any_leaf, node_of, a_float, ◌⋅◌, ◌or◌, any_of, Spells, no_child, a_node, by_first, by_second, either_of, after, turns, last_of, with_last, piece_shape, ends, nodes_in, nodes_by, nodes_each, same_shape, is_in, unless_in, with_shape, shapes_among, any_shape}
 use Rattle.rap_grammar_table.specs.Table.{Items, nil, begin, close, piece, choice, repeat, turns_of, group, folds, folding, way, unless, appended, HasWay, first_turn, other_turn, row_at}
 use Rattle.rap_grammar_table.proofs.Known.{by_or}
 use Rattle.rap_grammar_table.proofs.LookLaws.{same_self}
 use Rattle.rap_grammar_table.proofs.PartRows.{same_kinds_so}
-use Rattle.rap_grammar_table.proofs.Shaped.{OfChildren, Fits, fits_nil, fits_begin, fits_close, fits_piece, fits_choice, fits_repeat, fits_turns, fits_group, fits_folds, fits_unless, RowFits}
+use Rattle.rap_grammar_table.proofs.Shaped.{OfChildren, Fits, fits_nil, fits_begin, fits_close, fits_piece, fits_choice, fits_repeat, fits_turns, fits_group, fits_folds, fits_unless, RowsFit}
 use Rattle.rap_grammar_table.proofs.Entries.{all_rows, of_all}
 use Rattle.rap_grammar_table.proofs.Spells.{is_node, last_in, spells_first, spells_on, spells_second, within, within_so}
 use Rattle.rap_grammar_table.proofs.Values.{none-⧺}
@@ -29,7 +33,7 @@ have_right H (n ∷ ns) bs h = have_right H ns bs h.1
 
 -- A part of a row, or turns: each node ends where one is open, what turns are put around is a node, and they end what
 -- is expected of them.
-abbrev pub part_so : (ℕ → Shape) → Bool → Shape → List Shape → Items → Bool
+abbrev pub part_so : (Category → Shape) → Bool → Shape → List Shape → Items → Bool
 part_so f true x xs (way js a m ws) =
     (part_so f false x (nothing ∷ []) a && within (ends f x (nothing ∷ []) a) x) && part_so f true x xs ws
 part_so f true x xs is = true
@@ -54,7 +58,7 @@ part_so f false x xs (folding n ws) = false
 part_so f false x xs (way js a m ws) = false
 part_so f false x xs (unless h w a) = part_so f false x xs a
 
-appended_nil : (f : ℕ → Shape) (x : Shape) (xs : List Shape) (a : Items) → part_so f false x xs a ≡ true →
+appended_nil : (f : Category → Shape) (x : Shape) (xs : List Shape) (a : Items) → part_so f false x xs a ≡ true →
     appended a nil ≡ a
 appended_nil f x xs nil h = refl
 appended_nil f x xs (begin a) h = ap (λ (is : Items). begin is) (appended_nil f nothing (x ∷ xs) a h)
@@ -129,7 +133,7 @@ from_here : {u : Forest} {us : List Forest} → Within u us nothing [] u us
 from_here = in_part none no_child
 
 mutual
-  fits_part : {f : ℕ → Shape} {H : OfChildren} (a is : Items) {x : Shape} {xs : List Shape} {base : Forest}
+  fits_part : {f : Category → Shape} {H : OfChildren} (a is : Items) {x : Shape} {xs : List Shape} {base : Forest}
       {bases : List Forest} {u : Forest} {us : List Forest} {y : Shape} → Within base bases x xs u us →
       AllHave H (nodes_in f x xs a) → part_so f false x xs a ≡ true →
       ((v : Forest) → Spells (ends f x xs a) (children_of v) → Fits f H is (base ⧺ v) bases y) →
@@ -193,7 +197,7 @@ mutual
   fits_part (way js a m ws) is w o h k = absurd cc
   fits_part (unless g v a) is w o h k = fits_unless (fits_part a is w o h k)
 
-  fit_turns : {f : ℕ → Shape} {H : OfChildren} (ws : Items) {x : Shape} → AllHave H (nodes_in f x [] ws) →
+  fit_turns : {f : Category → Shape} {H : OfChildren} (ws : Items) {x : Shape} → AllHave H (nodes_in f x [] ws) →
       part_so f true x [] ws ≡ true → {js : List ℕ} {a : Items} {m : ℕ} → HasWay ws js a m → (u : Forest) →
       Spells x (children_of u) → Fits f H a u (none ∷ []) x
   fit_turns {f = f} {H = H} (way js a m ws) {x = x} o h first_turn u s =
@@ -211,37 +215,30 @@ mutual
   fit_turns ws o h w u s = elim w [ ]
 
 -- a whole row
-pub whole_fits : (f : ℕ → Shape) (H : OfChildren) (row : Items) → AllHave H (nodes_in f nothing [] row) →
+pub whole_fits : (f : Category → Shape) (H : OfChildren) (row : Items) → AllHave H (nodes_in f nothing [] row) →
     part_so f false nothing [] row ≡ true → Fits f H row none [] (ends f nothing [] row)
 whole_fits f H row o h =
     subst (λ (r : Items). Fits f H r none [] (ends f nothing [] row)) (appended_nil f nothing [] row h)
     (fits_part row nil from_here o h (λ v s. rw (none-⧺ v) (fits_nil s)))
 
 -- each row of the table, and its whole is of its category's shape
-abbrev pub row_so : (ℕ → Shape) → Shape → Items → Bool
+abbrev pub row_so : (Category → Shape) → Shape → Items → Bool
 row_so f s row = part_so f false nothing [] row && within (ends f nothing [] row) s
 
-abbrev pub rows_so : (ℕ → Shape) → (ℕ → Shape) → List (List Items) → Bool
-rows_so f g [] = true
-rows_so f g (rs ∷ more) = all_rows (row_so f (g zero)) rs && rows_so f (λ n. g (suc n)) more
+abbrev pub rows_so : (Category → Shape) → Category → Bool
+rows_so f c = all_rows (row_so f (f c)) (grammar c)
 
-category_so : (f g : ℕ → Shape) (rows : List (List Items)) (c : ℕ) → rows_so f g rows ≡ true →
-    all_rows (row_so f (g c)) (rows_at c rows) ≡ true
-category_so f g [] c h = refl
-category_so f g (rs ∷ more) zero h = and_left (all_rows (row_so f (g zero)) rs) _ h
-category_so f g (rs ∷ more) (suc c) h =
-    category_so f (λ n. g (suc n)) more c (and_right (all_rows (row_so f (g zero)) rs) _ h)
-
-category_have : (f : ℕ → Shape) (H : OfChildren) (rows : List (List Items)) (c : ℕ) → AllHave H (nodes_each f rows) →
-    AllHave H (nodes_by f (rows_at c rows))
-category_have f H [] c o = tt
-category_have f H (rs ∷ more) zero o = have_left H (nodes_by f rs) _ o
-category_have f H (rs ∷ more) (suc c) o = category_have f H more c (have_right H (nodes_by f rs) _ o)
+category_have : (f : Category → Shape) (H : OfChildren) (c : Category) → AllHave H (nodes_each f categories) →
+    AllHave H (nodes_by f (grammar c))
+category_have f H c o =
+    of_place (λ (d : Category). AllHave H (nodes_by f (grammar d))) (λ (cs : List Category). AllHave H (nodes_each f cs))
+    (λ d cs q. have_left H (nodes_by f (grammar d)) (nodes_each f cs) q)
+    (λ d cs q. have_right H (nodes_by f (grammar d)) (nodes_each f cs) q) categories (number c) c (at_number c) o
 
 same_row : (r row : Items) → Some r ≡ Some row → r ≡ row
 same_row r row e = cc
 
-row_have : (f : ℕ → Shape) (H : OfChildren) (rs : List Items) (n : ℕ) (row : Items) → AllHave H (nodes_by f rs) →
+row_have : (f : Category → Shape) (H : OfChildren) (rs : List Items) (n : ℕ) (row : Items) → AllHave H (nodes_by f rs) →
     row_at n rs ≡ Some row → AllHave H (nodes_in f nothing [] row)
 row_have f H [] n row o e = absurd cc
 row_have f H (r ∷ rs) zero row o e =
@@ -249,15 +246,15 @@ row_have f H (r ∷ rs) zero row o e =
     (have_left H (nodes_in f nothing [] r) _ o)
 row_have f H (r ∷ rs) (suc n) row o e = row_have f H rs n row (have_right H (nodes_in f nothing [] r) _ o) e
 
--- of the rows of any categories
-pub rows_fit : (f : ℕ → Shape) (H : OfChildren) (rows : List (List Items)) → AllHave H (nodes_each f rows) →
-    rows_so f f rows ≡ true → (c n : ℕ) (row : Items) → row_at n (rows_at c rows) ≡ Some row → RowFits f H c row
-rows_fit f H rows o h c n row e =
-    let i = of_all (row_so f (f c)) (rows_at c rows) n row (category_so f f rows c h) e in
+-- of the rows of all categories
+pub rows_fit : (f : Category → Shape) (H : OfChildren) → AllHave H (nodes_each f categories) →
+    every (rows_so f) categories ≡ true → RowsFit f H
+rows_fit f H o h c n row e =
+    let i = of_all (row_so f (f c)) (grammar c) n row (each_so (rows_so f) c h) e in
     record {
       whole = ends f nothing [] row;
       fits =
-          whole_fits f H row (row_have f H (rows_at c rows) n row (category_have f H rows c o) e)
+          whole_fits f H row (row_have f H (grammar c) n row (category_have f H c o) e)
           (and_left (part_so f false nothing [] row) _ i);
       is_within = and_right (part_so f false nothing [] row) _ i;
     }

@@ -3,7 +3,7 @@ use Rattle.std.specs.Prelude.{ℕ, List, [], ◌∷◌, ◌++◌}
 use Rattle.rap_base.specs.TokenKind.{L_PAREN, R_PAREN, L_BRACK, L_CURLY, L_ANGLE, BANG, PLUS, UNDERSCORE, POUND, OUTER_DOC_COMMENT, LIFETIME_IDENT, FOR_KW}
 use Rattle.rap_grammar_table.proofs.Entry.{of_names, colons}
 use Rattle.rap_grammar_table.proofs.Evaluate.{behind}
-use Rattle.rap_grammar_table.specs.Categories.{path_names, ends, bounds_colon, plus_follows, symbol_kinds}
+use Rattle.rap_grammar_table.specs.SharedRows.{path_names, ends, bounds_colon, plus_follows, symbol_kinds}
 use Rattle.rap_grammar_table.specs.Known.{Place}
 use Rattle.rap_grammar_table.specs.Notation.{of_kinds}
 

@@ -6,6 +6,7 @@ use Rattle.rap_events.specs.Record.{Record}
 use Rattle.rap_grammar_scripts.specs.Knot.{script_of}
 use Rattle.rap_grammar_scripts.specs.Script.{Script, Outcome}
 use Rattle.rap_grammar_scripts.specs.declared.rule.Rule.{Rule}
+use Rattle.rap_grammar_table.specs.Category.{Category}
 use Rattle.rap_grammar_table.proofs.Built.{at_start}
 use Rattle.rap_grammar_table.proofs.Good.{Good, good_token, good_word, good_operator, good_category, Made, made_end, made_begin, made_close, made_piece, made_first, made_second, made_last, made_turn, made_repeat, made_group, made_folded_none, made_folded_more, made_folds, made_guarded, ReadsBy}
 use Rattle.rap_grammar_table.specs.Known.{Place, Sees, anything}
@@ -49,7 +50,7 @@ of_accepted f (r ∷ rs) zero row h e =
 of_accepted f (r ∷ rs) (suc n) row h e = of_accepted f rs n row (both_right (f r) (all_accepted f rs) h) e
 
 -- a script reads all rows of a category
-rows_read : (t : Table) (d c n : ℕ) (row : Items) → row_at n (t.rows c) ≡ Some row → (a : Script Rule)
+rows_read : (t : Table) (d : ℕ) (c : Category) (n : ℕ) (row : Items) → row_at n (t.rows c) ≡ Some row → (a : Script Rule)
     (vs : List Outcome) (l : List Record) (ks : List Record) (us : List Forest) (y f : Forest) (b : List Forest) →
     Sees (t.follows c) l → Made t l row none [] us ks y → reads_rows d t c a vs ≡ accepted → ReadsBy a vs ks y l f b
 rows_read t zero c n row e a vs l ks us y f b s m w = absurd cc
@@ -60,14 +61,14 @@ rows_read t (suc d) c n row e a vs l ks us y f b s m w =
 
 -- a table whose rows are checked
 pub record Checked (t : Table) : Type 0 where
-  pub reads : (c n : ℕ) (row : Items) → row_at n (t.rows c) ≡ Some row → (r : Rule) →
+  pub reads : (c : Category) (n : ℕ) (row : Items) → row_at n (t.rows c) ≡ Some row → (r : Rule) →
       some_outcome (t.reads r c) ≡ true → reads_row t (t.follows c) (script_of r) (t.reads r c) row ≡ accepted
-  pub begins : (c n : ℕ) (row : Items) → row_at n (t.rows c) ≡ Some row →
+  pub begins : (c : Category) (n : ℕ) (row : Items) → row_at n (t.rows c) ≡ Some row →
       says (look t row (t.follows c)) (t.firsts c) ≡ true
-  pub followed : (c n : ℕ) (row : Items) → row_at n (t.rows c) ≡ Some row → followed t row (t.follows c) (t.follows c) ≡ true
-  pub is_node : (c n : ℕ) (row : Items) → row_at n (t.rows c) ≡ Some row → t.is_node c ≡ true →
+  pub followed : (c : Category) (n : ℕ) (row : Items) → row_at n (t.rows c) ≡ Some row → followed t row (t.follows c) (t.follows c) ≡ true
+  pub is_node : (c : Category) (n : ℕ) (row : Items) → row_at n (t.rows c) ≡ Some row → t.is_node c ≡ true →
       is_one_node t depth row ≡ true
-  pub unbraced : (c n : ℕ) (row : Items) → row_at n (t.rows c) ≡ Some row → t.unbraced c ≡ true → ends_plain t row ≡ true
+  pub unbraced : (c : Category) (n : ℕ) (row : Items) → row_at n (t.rows c) ≡ Some row → t.unbraced c ≡ true → ends_plain t row ≡ true
 
 -- what follows a piece is what may follow it
 abbrev pub MayFollow : Table → Piece → List Record → Type 0

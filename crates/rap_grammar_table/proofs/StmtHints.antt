@@ -12,7 +12,7 @@ use Rattle.rap_grammar_table.proofs.ExprHints.{by_expr, kinds_only, no_rule, nod
 use Rattle.rap_grammar_table.proofs.ItemHints.{item_heads}
 use Rattle.rap_grammar_table.proofs.PatternHints.{single_heads}
 use Rattle.rap_grammar_table.proofs.SharedHints.{attr_heads}
-use Rattle.rap_grammar_table.specs.Categories.{Stmt}
+use Rattle.rap_grammar_table.specs.Category.{Stmt}
 use Rattle.rap_grammar_table.specs.Known.{Place, anything}
 use Rattle.rap_grammar_table.specs.Notation.{those, up_to, Part, each_under, rows_of, of_kinds}
 use Rattle.rap_grammar_table.specs.Operators.{expr_ends}

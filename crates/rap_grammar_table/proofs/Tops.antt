@@ -9,7 +9,7 @@ use Rattle.rap_grammar_scripts.specs.Modules.{mod_contents}
 use Rattle.rap_grammar_scripts.specs.Script.{Script, something, Runs}
 use Rattle.rap_grammar_scripts.specs.ThroughKnot.{expr, meta, pattern, type_}
 use Rattle.rap_grammar_scripts.specs.declared.rule.Rule.{Rule}
-use Rattle.rap_grammar_table.specs.Categories.{Expr, Meta, Pattern, Ty}
+use Rattle.rap_grammar_table.specs.Category.{Expr, Meta, Pattern, Ty, Category}
 use Rattle.rap_grammar_table.proofs.Good.{IsNode}
 use Rattle.rap_grammar_table.specs.Known.{Fits, Sees, this_way, place_at}
 use Rattle.rap_grammar_table.proofs.Evaluate.{says}
@@ -31,7 +31,7 @@ end_fits (suc n) = record { kinds = refl; words = refl; joint = refl }
 pub sees_end : Sees at_end []
 sees_end = this_way (record { fits = end_fits })
 
-pub end_follows : (c : ℕ) → says at_end (table.follows c) ≡ true → Sees (table.follows c) []
+pub end_follows : (c : Category) → says at_end (table.follows c) ≡ true → Sees (table.follows c) []
 end_follows c h = weaker at_end (table.follows c) [] h sees_end
 
 -- a script makes of the whole input what is derived

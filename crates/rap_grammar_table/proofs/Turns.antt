@@ -16,8 +16,7 @@ use Rattle.rap_grammar_table.proofs.Refusal as refusal
 use Rattle.rap_grammar_table.proofs.Hints.{Table}
 use Rattle.rap_grammar_table.specs.Table.{Items, repeat, turns_of, folds, folding, HasWay, first_turn, other_turn}
 use Rattle.rap_grammar_table.proofs.Walk.{next_turn, is_repeat, at_repeat, Turn, one_turn, turns_first, turning, most_turns, Flags, flags_in, every_flags, goes_on_in, turn_ends, turn_so, no_turns, first_so, guesses, fold_turn_so, ways_so, then_ends, last_so, goes_on_after, folds_so, repeating}
-use Rattle.rap_grammar_table.proofs.Ways.{expose}
-use Rattle.rap_grammar_table.specs.Notation.{same_flag}
+use Rattle.rap_grammar_table.proofs.Ways.{expose, same_flag}
 use Rattle.rap_grammar_table.proofs.Exposes.{exposed_at, on_items}
 use Rattle.rap_grammar_table.proofs.Known.{by_or, same_number}
 use Rattle.rap_grammar_table.proofs.LookLaws.{seen}

@@ -8,7 +8,7 @@ use Rattle.rap_grammar_table.proofs.Entry.{Entry, text, read_text, of_names, tou
 use Rattle.rap_grammar_table.proofs.Evaluate.{behind}
 use Rattle.rap_grammar_table.proofs.OperatorHints.{cast_follows}
 use Rattle.rap_grammar_table.proofs.SharedHints.{global_heads, lifetime_head, name_heads, other_heads, paren_heads, plain_firsts, segment_follows, type_firsts}
-use Rattle.rap_grammar_table.specs.Categories.{literals, path_names, use_names, bound_kinds, plus_follows, symbol_kinds, type_follows}
+use Rattle.rap_grammar_table.specs.SharedRows.{literals, path_names, use_names, bound_kinds, plus_follows, symbol_kinds, type_follows}
 use Rattle.rap_grammar_table.specs.Known.{Place, never, anything}
 use Rattle.rap_grammar_table.specs.Notation.{those, up_to, of_kinds}
 use Rattle.rap_grammar_table.specs.TypeRows.{args_rows, path_rows, path_before_plus_rows, use_path_rows, global_path_rows, anchored_path_rows, expr_path_rows, simple_path_rows, anchor_trait_rows, bound_rows, bounds_rows, param_name_rows, fn_pointer_params_rows, trait_ref_rows, type_rows, plain_type_rows, type_before_plus_rows, symbol_type_rows}

@@ -2,14 +2,14 @@
 use Rattle.std.specs.Prelude.{ℕ, zero, suc, Bool, true, false, ◌&&◌, ◌||◌, List, [], ◌∷◌, ◌++◌, Option, Some, None}
 use Rattle.rap_grammar_scripts.specs.Script.{Script, Outcome, nothing, something, block, again, give, test, ends_with, token, any, bear, report, report_next, skip, start, precede, finish, extend, abandon, split_float, after, rule, loop}
 use Rattle.rap_grammar_scripts.specs.declared.rule.Rule.{Rule}
+use Rattle.rap_grammar_table.specs.Category.{Category}
 use Rattle.rap_grammar_table.proofs.Built.{empty, last_same, At, with_own, at_start, fold_start, after_category, after_piece, after_fold}
 use Rattle.rap_grammar_table.proofs.Hints.{Table}
 use Rattle.rap_grammar_table.proofs.Look.{look, after_way}
 use Rattle.rap_grammar_table.proofs.Narrow.{either_is}
 use Rattle.rap_grammar_table.proofs.Refusal.{word_of, stopped, ends_as, goes_on_as, too_deep, in_turn, after_turns, in_part, takes, takes_any, bears, turns, Verdict, accepted, refused, both, check, provided, by_bool, or_else_so, told_with, or_earlier, or_later}
-use Rattle.rap_grammar_table.proofs.Ways.{answer_at, expose, tested, front, is_token, is_some, is_bearer, read_rule, ends_otherwise, finish_own, extend_own, abandon_own, precede_own, ends_whole, ends_so, every_outcome}
+use Rattle.rap_grammar_table.proofs.Ways.{answer_at, expose, tested, front, is_token, is_some, is_bearer, read_rule, ends_otherwise, finish_own, extend_own, abandon_own, precede_own, ends_whole, ends_so, every_outcome, same_flag}
 use Rattle.rap_grammar_table.specs.Known.{Answer, sure, never, unclear, Place, anything}
-use Rattle.rap_grammar_table.specs.Notation.{same_flag}
 use Rattle.rap_grammar_table.specs.Table.{Items, begin, close, choice, repeat, group, folds, way, unless, Piece, tok, word, comp, cat, piece}
 
 -- a turn that goes on, or the last one
@@ -227,7 +227,7 @@ part_so w t g vs a = told_with in_part (w g (at_start a) (ends_so t g vs))
 
 -- what is said of a script that is to read the rows of a category with some outcomes
 abbrev pub Vouch : Type 0
-Vouch = ℕ → Script Rule → List Outcome → Verdict
+Vouch = Category → Script Rule → List Outcome → Verdict
 
 abbrev pub category_part : Vouch → Script Rule → (List (List Place) → Walked) → Table → List (List Place) → Piece →
     Items → Walked
@@ -292,7 +292,7 @@ walk o t f (loop h a b) s k =
     (λ on c d q m. repeating (λ g i j r n. walk o t g (h i j) r n) t f on q.items c d q m) a b s k
 
 -- A script reads each row of a category, where categories that it reads alone nest so deep.
-abbrev pub reads_rows : ℕ → Table → ℕ → Script Rule → List Outcome → Verdict
+abbrev pub reads_rows : ℕ → Table → Category → Script Rule → List Outcome → Verdict
 reads_rows zero t c a vs = refused too_deep
 reads_rows (suc n) t c a vs =
     all_accepted (part_so (λ g r m. walk (reads_rows n t) t g a r m) t (t.follows c) vs) (t.rows c)

@@ -12,7 +12,6 @@ use Rattle.rap_grammar_table.proofs.Look.{look, look_piece, depth}
 use Rattle.rap_grammar_table.proofs.Narrow.{Fact, left_by, looks_on}
 use Rattle.rap_grammar_table.proofs.Refusal.{Word, obeys, finishes, precedes, extends, abandons, stopped, left_over, unequal, ends_as, too_deep, where_so, Verdict, accepted, refused, both, check, provided, in_case, told_with}
 use Rattle.rap_grammar_table.specs.Known.{Answer, sure, never, unclear, Place, among, every_one, anything}
-use Rattle.rap_grammar_table.specs.Notation.{same_flag}
 use Rattle.rap_grammar_table.specs.Table.{Piece, tok, word, comp, cat, Items, nil, begin, close, piece, choice, repeat, turns_of, group, folds, folding, way, unless, appended}
 
 -- whether the rest of a row, before what may follow it, can begin so that these are so
@@ -240,6 +239,12 @@ is_whole s =
 
 abbrev pub ends_whole : Table → List (List Place) → At → Verdict
 ends_whole t g q = expose t g q (λ r. is_whole r)
+
+-- outcomes
+abbrev pub same_flag : Bool → Bool → Bool
+same_flag true b = b
+same_flag false true = false
+same_flag false false = true
 
 abbrev pub same_outcome : Outcome → Outcome → Bool
 same_outcome nothing nothing = true

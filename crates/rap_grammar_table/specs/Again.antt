@@ -5,11 +5,11 @@ use Rattle.rap_base.specs.TokenKind.{L_CURLY}
 use Rattle.rap_events.specs.Forest.{Forest, none, node}
 use Rattle.rap_events.specs.Record.{Record, next_kind}
 use Rattle.rap_grammar_ends.specs.StandsIn.{StandsIn}
-use Rattle.rap_grammar_table.specs.Categories.{AssocItems, Block, ExternItems, ItemList, MatchArms, RecordFields, RecordValues, TokenTree, UseTrees, Variants}
+use Rattle.rap_grammar_table.specs.Category.{AssocItems, Block, ExternItems, ItemList, MatchArms, RecordFields, RecordValues, TokenTree, UseTrees, Variants, Category}
 use Rattle.rap_grammar_table.specs.Tops.{Makes, MakesRow, file_row, items_row, stmts_row}
 
 -- the kinds of these nodes, each with its category
-abbrev pub parsed_again : List (ℕ × ℕ)
+abbrev pub parsed_again : List (ℕ × Category)
 parsed_again =
     (BLOCK_EXPR, Block)
     ∷ (RECORD_FIELD_LIST, RecordFields)
@@ -23,12 +23,12 @@ parsed_again =
     ∷ (ITEM_LIST, ItemList)
     ∷ []
 
-abbrev pub category_in : List (ℕ × ℕ) → ℕ → Option ℕ
+abbrev pub category_in : List (ℕ × Category) → ℕ → Option Category
 category_in [] kind = None
 category_in (row ∷ rows) kind = if row.0 == kind then Some row.1 else category_in rows kind
 
 -- these tokens are a category's, where there is one
-abbrev pub MakesIn : Option ℕ → List Record → Forest → Type 0
+abbrev pub MakesIn : Option Category → List Record → Forest → Type 0
 MakesIn None tokens tree = Unit {0}
 MakesIn (Some category) tokens tree = Makes category tokens tree
 
@@ -40,7 +40,7 @@ IsMade kind own children =
 
 -- What the table derives in any category, and what stands under an entry's node.
 pub data IsTableTree : List Record → Forest → Type 0 where
-  of_category : {category : ℕ} {tokens : List Record} {tree : Forest} → Makes category tokens tree →
+  of_category : {category : Category} {tokens : List Record} {tree : Forest} → Makes category tokens tree →
       IsTableTree tokens tree
   a_file : {tokens : List Record} {forest : Forest} → MakesRow file_row tokens forest →
       IsTableTree tokens (node none SOURCE_FILE forest)

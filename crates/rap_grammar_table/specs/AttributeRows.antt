@@ -5,7 +5,8 @@ use Rattle.rap_base.specs.NodeKind.{ATTR, CFG_ATOM, CFG_ATTR_META, CFG_COMPOSITE
 use Rattle.rap_base.specs.TokenKind.{EOF, IDENT, COMMA, COLON2, EQ, L_PAREN, R_PAREN, L_BRACK, R_BRACK, L_CURLY, R_CURLY, BANG, POUND, OUTER_DOC_COMMENT, INNER_DOC_COMMENT, SHEBANG, STRING, CFG_KW, CFG_ATTR_KW, FALSE_KW, TRUE_KW, UNSAFE_KW}
 use Rattle.rap_base.specs.TokenTests.{is_delimiter}
 use Rattle.rap_grammar_scripts.specs.First.{one_of}
-use Rattle.rap_grammar_table.specs.Categories.{TokenTree, Meta, Cfg, Expr, path_names, plain_path, plain_segment}
+use Rattle.rap_grammar_table.specs.Category.{TokenTree, Meta, Cfg, Expr}
+use Rattle.rap_grammar_table.specs.SharedRows.{path_names, plain_path, plain_segment}
 use Rattle.rap_grammar_table.specs.Known.{Place}
 use Rattle.rap_grammar_table.specs.Notation.{those, up_to, Part, ◌⊳◌, t, ts, weak, op, c, node, opt, either, many, commas, fold, of_kinds}
 use Rattle.rap_grammar_table.specs.Table.{tok, piece}

@@ -4,9 +4,10 @@ use Rattle.rap_base.specs.NodeKind.{ARG_LIST, ARRAY_EXPR, ARRAY_TYPE, AWAIT_EXPR
 use Rattle.rap_base.specs.TokenKind.{IDENT, SEMICOLON, COMMA, COLON, COLON2, EQ, L_PAREN, R_PAREN, L_BRACK, R_BRACK, L_CURLY, R_CURLY, L_ANGLE, R_ANGLE, AMP, STAR, BANG, MINUS, PIPE, DOT, DOT2, QUESTION, UNDERSCORE, LIFETIME_IDENT, INT_NUMBER, ASYNC_KW, AWAIT_KW, BECOME_KW, BREAK_KW, CONST_KW, CONTINUE_KW, LET_KW, MOVE_KW, MUT_KW, RAW_KW, RETURN_KW, YIELD_KW}
 use Rattle.rap_grammar_scripts.specs.Words.{next_is}
 use Rattle.rap_grammar_table.specs.AttributeRows.{tree_in}
-use Rattle.rap_grammar_table.specs.Categories.{Ty, PlainTy, Argument, Expr, PlainAtom, ElsePrefixed, StmtList, Pattern, SinglePattern, AtomPath, RoundTree, ArgList, NameExpr, CastTy, CastPath, WithBlock, Atom, Operand, Prefixed, StmtOperand, StmtPrefixed, OpenAtom, OpenPrefixed, RecordValue, attrs, lifetime, literal, name_ref, path_names, Assigned, WithCast}
+use Rattle.rap_grammar_table.specs.Category.{Ty, PlainTy, Argument, Expr, PlainAtom, ElsePrefixed, StmtList, Pattern, SinglePattern, AtomPath, RoundTree, ArgList, NameExpr, CastTy, CastPath, WithBlock, Atom, Operand, Prefixed, StmtOperand, StmtPrefixed, OpenAtom, OpenPrefixed, RecordValue, Assigned, WithCast, And, Category, Level, Or}
+use Rattle.rap_grammar_table.specs.SharedRows.{attrs, lifetime, literal, name_ref, path_names}
 use Rattle.rap_grammar_table.specs.Notation.{Part, ◌⊳◌, t, ts, weak, op, c, node, opt, either, commas, commas_last, alone, guard, turn, around}
-use Rattle.rap_grammar_table.specs.Operators.{assign_turns, binary_cast, closed_turns, cast_turns, range_turn, range_with_end, and_open, all_turns}
+use Rattle.rap_grammar_table.specs.Operators.{all_turns, and_open, assign_turns, behind, binary_cast, cast_turns, closed_turns, fresh, levels, range_turn, range_with_end, tighter}
 use Rattle.rap_grammar_table.specs.TypeRows.{anchored_path, fn_pointer, global_path, named_paths, ret}
 
 abbrev pub round_tree_rows : List Part
@@ -99,16 +100,16 @@ postfixes =
     turn (0 ∷ 1 ∷ []) FIELD_EXPR number_part 1
 
 -- an operator before an operand
-abbrev pub ref_before : ℕ → Part
+abbrev pub ref_before : Category → Part
 ref_before category = node REF_EXPR (t AMP ⊳ opt (t MUT_KW) ⊳ c category)
 
-abbrev pub prefix_before : List ℕ → ℕ → Part
+abbrev pub prefix_before : List ℕ → Category → Part
 prefix_before kinds category = node PREFIX_EXPR (ts kinds ⊳ c category)
 
-abbrev pub raw_before : ℕ → Part
+abbrev pub raw_before : Category → Part
 raw_before category = node REF_EXPR (t AMP ⊳ weak RAW_KW ⊳ ts (CONST_KW ∷ MUT_KW ∷ []) ⊳ c category)
 
-abbrev pub prefixes : ℕ → List Part
+abbrev pub prefixes : Category → List Part
 prefixes category =
     ref_before category ∷ prefix_before (STAR ∷ BANG ∷ []) category ∷ prefix_before (MINUS ∷ []) category ∷
     raw_before category ∷ []
@@ -168,31 +169,27 @@ abbrev pub open_prefixed_rows : List Part
 open_prefixed_rows =
     c OpenAtom ∷ open_prefixes
 
-abbrev pub closed_rows : Bool → ℕ → List Part
-closed_rows forbid power =
-    (c (Operand forbid) ⊳ around 12 (closed_turns forbid power)) ∷ []
+abbrev pub closed_rows : Bool → Level → List Part
+closed_rows forbid level = (c (Operand forbid) ⊳ around fresh (closed_turns forbid (tighter level))) ∷ []
 
 -- the same with a cast at the end, before operators that begin otherwise than generic arguments
-abbrev pub with_cast_rows : Bool → ℕ → List Part
-with_cast_rows forbid power =
-    (c (Operand forbid) ⊳ around 12 (cast_turns forbid power)) ∷ []
+abbrev pub with_cast_rows : Bool → Level → List Part
+with_cast_rows forbid level = (c (Operand forbid) ⊳ around fresh (cast_turns forbid (tighter level))) ∷ []
 
 abbrev pub range_end_rows : Bool → List Part
-range_end_rows forbid =
-    (c (Operand forbid) ⊳ around 12 (cast_turns forbid 3)) ∷ []
+range_end_rows forbid = (c (Operand forbid) ⊳ around fresh (cast_turns forbid levels)) ∷ []
 
 -- the same where what takes in all that follows may stand at the end
-abbrev pub open_turns : Bool → Part
-open_turns true = cast_turns false 4 ⊳ and_open
-open_turns false = cast_turns false 5
+abbrev pub open_or_rows : List Part
+open_or_rows =
+    (c (Operand false) ⊳ around fresh (cast_turns false (tighter Or) ⊳ and_open)) ∷ c OpenAtom ∷ open_prefixes
 
-abbrev pub open_rows : ℕ → List Part
-open_rows power =
-    (c (Operand false) ⊳ around 12 (open_turns (power == 4))) ∷ c OpenAtom ∷ open_prefixes
+abbrev pub open_and_rows : List Part
+open_and_rows = (c (Operand false) ⊳ around fresh (cast_turns false (tighter And))) ∷ c OpenAtom ∷ open_prefixes
 
 -- a range that has no end, and one that has no start
 abbrev pub open_range : Bool → Part
-open_range forbid = node RANGE_EXPR (c (Operand forbid) ⊳ around 12 (cast_turns forbid 3) ⊳ op DOT2)
+open_range forbid = node RANGE_EXPR (c (Operand forbid) ⊳ around fresh (cast_turns forbid levels) ⊳ op DOT2)
 
 abbrev pub ranges_to : Bool → List Part
 ranges_to forbid =
@@ -201,17 +198,17 @@ ranges_to forbid =
 -- any expression
 abbrev pub expr_rows : List Part
 expr_rows =
-    (c (Operand false) ⊳ around 12 all_turns) ∷ open_range false ∷ (ranges_to false ++ c OpenAtom ∷ open_prefixes)
+    (c (Operand false) ⊳ around fresh all_turns) ∷ open_range false ∷ (ranges_to false ++ c OpenAtom ∷ open_prefixes)
 
 -- Conditions: with `let` alone, or before `&&` and `||`; the guard of an arm may begin so too.
 abbrev pub let_chain : Bool → Part
 let_chain forbid =
-    node LET_EXPR (t LET_KW ⊳ c Pattern ⊳ t EQ ⊳ c (WithCast forbid 5)) ⊳
-    around 4 (binary_cast forbid 4 ⊳ binary_cast forbid 3)
+    node LET_EXPR (t LET_KW ⊳ c Pattern ⊳ t EQ ⊳ c (WithCast forbid And)) ⊳
+    around (behind And) (binary_cast forbid And ⊳ binary_cast forbid Or)
 
 abbrev pub without_let : List Part
 without_let =
-    (c (Operand true) ⊳ around 12 (cast_turns true 3 ⊳ range_turn true ⊳ assign_turns Assigned)) ∷ open_range true ∷
+    (c (Operand true) ⊳ around fresh (cast_turns true levels ⊳ range_turn true ⊳ assign_turns Assigned)) ∷ open_range true ∷
     ranges_to true
 
 abbrev pub condition_rows : List Part
@@ -220,7 +217,7 @@ condition_rows =
 
 abbrev pub guard_rows : List Part
 guard_rows =
-    (c (Operand false) ⊳ around 12 (cast_turns false 3 ⊳ range_turn false)) ∷ let_chain false ∷ []
+    (c (Operand false) ⊳ around fresh (cast_turns false levels ⊳ range_turn false)) ∷ let_chain false ∷ []
 
 -- the types of casts
 abbrev pub cast_path_rows : List Part

@@ -4,7 +4,8 @@ use Rattle.rap_base.specs.NodeKind.{ASSOC_TYPE_ARG, CONST_PARAM, GENERIC_PARAM_L
 use Rattle.rap_base.specs.TokenKind.{IDENT, SEMICOLON, COMMA, COLON, EQ, L_CURLY, L_ANGLE, R_ANGLE, PLUS, CONST_KW, FOR_KW, IMPL_KW, LIFETIME_IDENT, WHERE_KW}
 use Rattle.rap_grammar_scripts.specs.First.{one_of}
 use Rattle.rap_grammar_scripts.specs.Words.{next_is, next_so}
-use Rattle.rap_grammar_table.specs.Categories.{Ty, PlainTy, TyBeforePlus, SymbolTy, GenericParam, Predicate, attrs, macro_call, plain_path, constant, constant_path, lifetime, name, name_ref, path_names}
+use Rattle.rap_grammar_table.specs.Category.{Ty, PlainTy, TyBeforePlus, SymbolTy, GenericParam, Predicate}
+use Rattle.rap_grammar_table.specs.SharedRows.{attrs, macro_call, plain_path, constant, constant_path, lifetime, name, name_ref, path_names}
 use Rattle.rap_grammar_table.specs.Known.{Place}
 use Rattle.rap_grammar_table.specs.Notation.{Part, ◌⊳◌, t, c, node, opt, either, commas, until, alone, guard, guard_before, each_under, of_kinds}
 use Rattle.rap_grammar_table.specs.TypeRows.{bound_list, bounded, for_binder, named_paths, opt_args}

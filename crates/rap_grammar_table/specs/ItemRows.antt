@@ -7,7 +7,8 @@ use Rattle.rap_grammar_scripts.specs.First.{one_of}
 use Rattle.rap_grammar_scripts.specs.Test.{Test, also, comes, kind_so, negated, or_else}
 use Rattle.rap_grammar_scripts.specs.Words.{is_at, kind_is, next_is, next_so}
 use Rattle.rap_grammar_table.specs.AttributeRows.{tree_in}
-use Rattle.rap_grammar_table.specs.Categories.{Ty, PlainTy, Generics, Where, ParamPattern, Expr, Block, Visibility, RecordField, Variant, FnParams, Item, abi, attrs, lifetime, name, Bounds, TraitRef, UseTree, inner_attrs, name_ref, plain_segment, use_names}
+use Rattle.rap_grammar_table.specs.Category.{Ty, PlainTy, Generics, Where, ParamPattern, Expr, Block, Visibility, RecordField, Variant, FnParams, Item, Bounds, TraitRef, UseTree}
+use Rattle.rap_grammar_table.specs.SharedRows.{abi, attrs, lifetime, name, inner_attrs, name_ref, plain_segment, use_names}
 use Rattle.rap_grammar_table.specs.Notation.{those, Part, ◌⊳◌, t, c, node, opt, either, many, commas, alone, guard, op, weak, fold}
 use Rattle.rap_grammar_table.specs.Table.{piece, tok}
 use Rattle.rap_grammar_table.specs.TypeRows.{ret}

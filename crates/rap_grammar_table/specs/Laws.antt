@@ -2,11 +2,12 @@
 use Rattle.std.specs.Prelude.{◌≡◌, ℕ, List}
 use Rattle.rap_events.specs.Forest.{Forest}
 use Rattle.rap_events.specs.Record.{Record}
+use Rattle.rap_grammar_table.specs.Category.{Category}
 use Rattle.rap_grammar_table.specs.Table.{Items}
 use Rattle.rap_grammar_table.specs.Tops.{Makes, MakesRow}
 
 -- Any tokens have at most one tree in this category.
-abbrev pub HasOneTree : ℕ → Type 0
+abbrev pub HasOneTree : Category → Type 0
 HasOneTree category =
     (tokens : List Record) (tree other : Forest) → Makes category tokens tree → Makes category tokens other →
     tree ≡ other

@@ -1,6 +1,6 @@
 pub mod Again
 pub mod AttributeRows
-pub mod Categories
+pub mod Category
 pub mod Counts
 pub mod ExprRows
 pub mod Fronts
@@ -10,11 +10,13 @@ pub mod ItemRows
 pub mod Known
 pub mod Laws
 pub mod Notation
+pub mod Numbers
 pub mod Operators
 pub mod PatternRows
 pub mod Rows
 pub mod Shaped
 pub mod Shapes
+pub mod SharedRows
 pub mod StmtRows
 pub mod Table
 pub mod Tops

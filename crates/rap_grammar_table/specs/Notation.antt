@@ -3,6 +3,7 @@ use Rattle.std.specs.Prelude.{ℕ, zero, suc, Bool, true, false, List, [], ◌�
 use Rattle.rap_base.specs.KeywordTable.{contextual_ever}
 use Rattle.rap_base.specs.TokenKind.{EOF, IDENT, COMMA}
 use Rattle.rap_grammar_scripts.specs.Test.{Test}
+use Rattle.rap_grammar_table.specs.Category.{Category}
 use Rattle.rap_grammar_table.specs.Known.{anything, Place, unclear}
 use Rattle.rap_grammar_table.specs.Table.{tok, word, comp, cat, Items, nil, begin, close, piece, choice, repeat, group, folds, way, unless}
 
@@ -47,7 +48,7 @@ abbrev pub op : ℕ → Part
 op kind r = piece (comp kind) r
 
 -- a category
-abbrev pub c : ℕ → Part
+abbrev pub c : Category → Part
 c category r = piece (cat category) r
 
 -- a node over a part
@@ -120,9 +121,3 @@ of_kinds kinds = record { kinds = Some kinds; words = None; joint = unclear }
 abbrev pub up_to : ℕ → List ℕ
 up_to zero = []
 up_to (suc n) = suc n ∷ up_to n
-
--- the same of two
-abbrev pub same_flag : Bool → Bool → Bool
-same_flag true b = b
-same_flag false true = false
-same_flag false false = true

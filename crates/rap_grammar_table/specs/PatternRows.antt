@@ -5,7 +5,8 @@ use Rattle.rap_base.specs.TokenKind.{EOF, IDENT, SEMICOLON, COMMA, COLON, DOT, D
 use Rattle.rap_grammar_scripts.specs.First.{one_of}
 use Rattle.rap_grammar_scripts.specs.Test.{Test, also, comes, kind_so, negated}
 use Rattle.rap_grammar_scripts.specs.Words.{is_at}
-use Rattle.rap_grammar_table.specs.Categories.{Pattern, SinglePattern, PatternPath, RestPattern, Block, attrs, literal, name, path_names, symbol_kinds}
+use Rattle.rap_grammar_table.specs.Category.{Pattern, SinglePattern, PatternPath, RestPattern, Block}
+use Rattle.rap_grammar_table.specs.SharedRows.{attrs, literal, name, path_names, symbol_kinds}
 use Rattle.rap_grammar_table.specs.Known.{Place}
 use Rattle.rap_grammar_table.specs.Notation.{Part, ◌⊳◌, t, ts, names, op, c, node, opt, either, many, commas, alone, guard, of_kinds}
 

@@ -2,7 +2,9 @@
 use Rattle.std.specs.Prelude.{◌==◌, ◌&&◌, ◌||◌, ℕ, zero, suc, Bool, true, false, List, [], ◌∷◌, ◌++◌, ◌≡◌}
 use Rattle.rap_base.specs.NodeKind.{MACRO_ITEMS, MACRO_STMTS, SOURCE_FILE}
 use Rattle.rap_events.specs.Forest.{Forest, none, node, leaf, message, split}
-use Rattle.rap_grammar_table.specs.Rows.{row_lists}
+use Rattle.rap_grammar_table.specs.Numbers.{categories, number}
+use Rattle.rap_grammar_table.specs.Category.{Category}
+use Rattle.rap_grammar_table.specs.Rows.{grammar}
 use Rattle.rap_grammar_table.specs.Known.{among}
 use Rattle.rap_grammar_table.specs.Table.{Piece, tok, word, comp, cat, Items, nil, begin, close, piece, choice, repeat, turns_of, group, folds, folding, way, unless}
 use Rattle.rap_grammar_table.specs.Tops.{file_row, items_row, stmts_row}
@@ -81,7 +83,7 @@ with_last (a ⋅ b) l = a ⋅ l
 with_last a l = l
 
 -- a piece, where a category is of this shape
-abbrev pub piece_shape : (ℕ → Shape) → Piece → Shape
+abbrev pub piece_shape : (Category → Shape) → Piece → Shape
 piece_shape f (tok kinds words) = leaf_of kinds
 piece_shape f (word kind) = leaf_of (kind ∷ [])
 piece_shape f (comp kind) = leaf_of (kind ∷ [])
@@ -89,7 +91,7 @@ piece_shape f (cat category) = f category
 
 -- The tree of a row, one leaf or one node: what stands last in it outside of its nodes, of which so many are open. Of
 -- turns, what they end, or what they are put around.
-abbrev pub root : (ℕ → Shape) → ℕ → Shape → Items → Shape
+abbrev pub root : (Category → Shape) → ℕ → Shape → Items → Shape
 root f n x nil = x
 root f n x (begin a) = root f (suc n) x a
 root f zero x (close k a) = root f zero x a
@@ -110,7 +112,7 @@ root f n x (unless h w a) = root f n x a
 -- The tree of a category, by its rows; and those of all, after so many rounds, each of which takes what the round
 -- before it found where a row is a category alone or has turns behind one. No row takes more than six: it is computed
 -- that each row is within its category's.
-abbrev pub roots_by : (ℕ → Shape) → List Items → Shape
+abbrev pub roots_by : (Category → Shape) → List Items → Shape
 roots_by f [] = node_of []
 roots_by f (r ∷ []) = root f zero nothing r
 roots_by f (r ∷ q ∷ rs) = either_of (root f zero nothing r) (roots_by f (q ∷ rs))
@@ -120,20 +122,23 @@ shape_at [] n = node_of []
 shape_at (s ∷ ss) zero = s
 shape_at (s ∷ ss) (suc n) = shape_at ss n
 
-abbrev pub roots_each : (ℕ → Shape) → List (List Items) → List Shape
-roots_each f [] = []
-roots_each f (rs ∷ more) = roots_by f rs ∷ roots_each f more
+abbrev pub root_in : List Shape → Category → Shape
+root_in shapes category = shape_at shapes (number category)
 
-abbrev pub roots_after : ℕ → List (List Items) → List Shape
-roots_after zero rows = []
-roots_after (suc n) rows = roots_each (shape_at (roots_after n rows)) rows
+abbrev pub roots_each : (Category → Shape) → List Category → List Shape
+roots_each f [] = []
+roots_each f (c ∷ cs) = roots_by f (grammar c) ∷ roots_each f cs
+
+abbrev pub roots_after : ℕ → List Category → List Shape
+roots_after zero cs = []
+roots_after (suc n) cs = roots_each (root_in (roots_after n cs)) cs
 
 abbrev pub roots : List Shape
-roots = roots_after 6 row_lists
+roots = roots_after 6 categories
 
 -- What stands in the newest open node at the end of a part of a row, where this stands before the part, and these in
 -- the older ones. Of turns as above.
-abbrev pub ends : (ℕ → Shape) → Shape → List Shape → Items → Shape
+abbrev pub ends : (Category → Shape) → Shape → List Shape → Items → Shape
 ends f x xs nil = x
 ends f x xs (begin a) = ends f nothing (x ∷ xs) a
 ends f x [] (close k a) = ends f x [] a
@@ -149,7 +154,7 @@ ends f x xs (way js a m ws) = either_of (ends f nothing (nothing ∷ []) a) (end
 ends f x xs (unless h w a) = ends f x xs a
 
 -- the nodes in such a part: the kind of each, and what stands in it
-abbrev pub nodes_in : (ℕ → Shape) → Shape → List Shape → Items → List (ℕ × Shape)
+abbrev pub nodes_in : (Category → Shape) → Shape → List Shape → Items → List (ℕ × Shape)
 nodes_in f x xs nil = []
 nodes_in f x xs (begin a) = nodes_in f nothing (x ∷ xs) a
 nodes_in f x [] (close k a) = nodes_in f x [] a
@@ -171,24 +176,24 @@ nodes_in f x xs (way js a m ws) = nodes_in f x (nothing ∷ []) a ++ nodes_in f 
 nodes_in f x xs (unless h w a) = nodes_in f x xs a
 
 -- in all rows, and in the rows of the entries, with the nodes over these
-abbrev pub nodes_by : (ℕ → Shape) → List Items → List (ℕ × Shape)
+abbrev pub nodes_by : (Category → Shape) → List Items → List (ℕ × Shape)
 nodes_by f [] = []
 nodes_by f (r ∷ rs) = nodes_in f nothing [] r ++ nodes_by f rs
 
-abbrev pub nodes_each : (ℕ → Shape) → List (List Items) → List (ℕ × Shape)
+abbrev pub nodes_each : (Category → Shape) → List Category → List (ℕ × Shape)
 nodes_each f [] = []
-nodes_each f (rs ∷ more) = nodes_by f rs ++ nodes_each f more
+nodes_each f (c ∷ cs) = nodes_by f (grammar c) ++ nodes_each f cs
 
-abbrev pub nodes_over : (ℕ → Shape) → ℕ → Items → List (ℕ × Shape)
+abbrev pub nodes_over : (Category → Shape) → ℕ → Items → List (ℕ × Shape)
 nodes_over f kind row = (kind, ends f nothing [] row) ∷ nodes_in f nothing [] row
 
-abbrev pub nodes_of_all : (ℕ → Shape) → List (ℕ × Shape)
+abbrev pub nodes_of_all : (Category → Shape) → List (ℕ × Shape)
 nodes_of_all f =
     nodes_over f SOURCE_FILE file_row ++
-    (nodes_over f MACRO_ITEMS items_row ++ (nodes_over f MACRO_STMTS stmts_row ++ nodes_each f row_lists))
+    (nodes_over f MACRO_ITEMS items_row ++ (nodes_over f MACRO_STMTS stmts_row ++ nodes_each f categories))
 
 abbrev pub all_nodes : List (ℕ × Shape)
-all_nodes = nodes_of_all (shape_at roots)
+all_nodes = nodes_of_all (root_in roots)
 
 -- the same kinds, the same shapes, and shapes of which each stands once
 abbrev pub same_kinds : List ℕ → List ℕ → Bool

@@ -3,12 +3,13 @@ use Rattle.std.specs.Prelude.{ℕ, List, [], ◌∷◌, ◌++◌}
 use Rattle.rap_base.specs.NodeKind.{BLOCK_EXPR, EXPR_STMT, FOR_EXPR, IF_EXPR, LABEL, LET_ELSE, LET_STMT, LOOP_EXPR, MACRO_CALL, MACRO_EXPR, MATCH_ARM, MATCH_ARM_LIST, MATCH_EXPR, MATCH_GUARD, STMT_LIST, TRY_BLOCK_MODIFIER, WHILE_EXPR, MACRO_RULES}
 use Rattle.rap_base.specs.TokenKind.{EOF, SEMICOLON, COMMA, COLON, EQ, R_CURLY, L_CURLY, L_ANGLE, BANG, FAT_ARROW, ASYNC_KW, CONST_KW, ELSE_KW, FOR_KW, IF_KW, IN_KW, LET_KW, LOOP_KW, MACRO_RULES_KW, MATCH_KW, MOVE_KW, TRY_KW, UNSAFE_KW, WHILE_KW}
 use Rattle.rap_grammar_scripts.specs.Words.{next_is}
-use Rattle.rap_grammar_table.specs.Categories.{Ty, Pattern, Expr, Stmt, Block, Attr, AtomPath, RoundTree, BraceTree, StmtList, If, EndingBlock, Arm, LastArm, StmtOperand, OpenAtom, Condition, Guard, StmtExpr, StmtBlock, BlockStmt, EmptyStmt, ElseValue, Tail, attrs, inner_attrs, lifetime, name}
+use Rattle.rap_grammar_table.specs.Category.{Ty, Pattern, Expr, Stmt, Block, Attr, AtomPath, RoundTree, BraceTree, StmtList, If, EndingBlock, Arm, LastArm, StmtOperand, OpenAtom, Condition, Guard, StmtExpr, StmtBlock, BlockStmt, EmptyStmt, ElseValue, Tail, Category}
+use Rattle.rap_grammar_table.specs.SharedRows.{attrs, inner_attrs, lifetime, name}
 use Rattle.rap_grammar_table.specs.ExprRows.{block_part}
 use Rattle.rap_grammar_table.specs.ItemRows.{import_items, opt_visibility, other_items, struct_items, trait_items, tree_and_end}
 use Rattle.rap_grammar_table.specs.Known.{Place}
 use Rattle.rap_grammar_table.specs.Notation.{Part, ◌⊳◌, t, ts, weak, op, c, node, opt, either, until, each_under, guard, around, of_kinds}
-use Rattle.rap_grammar_table.specs.Operators.{all_turns}
+use Rattle.rap_grammar_table.specs.Operators.{all_turns, fresh}
 
 -- A block, and its statements: one that ends with its block and without a semicolon is not the last. A semicolon alone
 -- is a statement where no such one is in the block.
@@ -87,7 +88,7 @@ with_block_rows =
 
 -- Expressions at the beginning of a statement, and in an arm: one that does not end with its block, and one that does.
 abbrev pub stmt_exprs : List Part
-stmt_exprs = (c StmtOperand ⊳ around 12 all_turns) ∷ c OpenAtom ∷ []
+stmt_exprs = (c StmtOperand ⊳ around fresh all_turns) ∷ c OpenAtom ∷ []
 
 abbrev pub ending_block_rows : List Part
 ending_block_rows =
@@ -107,7 +108,7 @@ let_head = attrs ⊳ t LET_KW ⊳ c Pattern ⊳ opt (t COLON ⊳ guard (next_is 
 abbrev pub let_stmt : Part → Part
 let_stmt end = node LET_STMT (let_head ⊳ opt (t EQ ⊳ c Expr) ⊳ end)
 
-abbrev pub let_else : ℕ → Part → Part
+abbrev pub let_else : Category → Part → Part
 let_else category end =
     node LET_STMT (let_head ⊳ t EQ ⊳ c category ⊳ node LET_ELSE (t ELSE_KW ⊳ c Block) ⊳ end)
 

@@ -5,15 +5,16 @@ use Rattle.rap_events.specs.Composite.{parts, width}
 use Rattle.rap_events.specs.Forest.{Forest, none, node, leaf, ◌⧺◌}
 use Rattle.rap_events.specs.Record.{Record}
 use Rattle.rap_grammar_scripts.specs.Test.{Test, holds}
+use Rattle.rap_grammar_table.specs.Category.{Category}
 use Rattle.rap_grammar_table.specs.Known.{Place, among, within, Sees}
 
 -- A token of one of these kinds that is read as one of these words, or as any where there are none; an identifier that
--- is taken as this word; the tokens of an operator; or a category, by its number.
+-- is taken as this word; the tokens of an operator; or a category.
 pub data Piece : Type 0 where
   tok : List ℕ → Option (List ℕ) → Piece
   word : ℕ → Piece
   comp : ℕ → Piece
-  cat : ℕ → Piece
+  cat : Category → Piece
 
 -- A row: a node begins, it ends under a kind, a piece, one of two ways, or any number of turns and then what stands
 -- last; and on. Or turns alone. A part may be marked as one that a script reads alone. Around the last node any number
@@ -73,11 +74,11 @@ pub data Touching : List ℕ → List Record → Type 0 where
 
 -- a grammar: the rows of each category
 abbrev pub Grammar : Type 0
-Grammar = ℕ → List Items
+Grammar = Category → List Items
 
 -- the tokens of a piece, or of the rest of a row, and its tree
 pub data Derives (g : Grammar) : Goal → List Record → Forest → Type 0 where
-  by_row : {c : ℕ} {row : Items} {ks : List Record} {x : Forest} (n : ℕ) →
+  by_row : {c : Category} {row : Items} {ks : List Record} {x : Forest} (n : ℕ) →
       row_at n (g c) ≡ Some row → Derives g (rest_of row none []) ks x → Derives g (one (cat c)) ks x
   a_token : {kinds : List ℕ} {words : Option (List ℕ)} {r : Record} → among kinds r.kind ≡ true →
       within words r.contextual ≡ true → Derives g (one (tok kinds words)) (r ∷ []) (leaf none r.kind 1)

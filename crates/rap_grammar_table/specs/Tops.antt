@@ -3,14 +3,15 @@ use Rattle.std.specs.Prelude.{ℕ, List, [], ◌∷◌}
 use Rattle.rap_base.specs.TokenKind.{EOF, SHEBANG, FRONTMATTER}
 use Rattle.rap_events.specs.Forest.{Forest, none}
 use Rattle.rap_events.specs.Record.{Record}
-use Rattle.rap_grammar_table.specs.Categories.{BlockStmt, EmptyStmt, Item, MacroTail, Stmt, inner_attrs}
+use Rattle.rap_grammar_table.specs.Category.{BlockStmt, EmptyStmt, Item, MacroTail, Stmt, Category}
+use Rattle.rap_grammar_table.specs.SharedRows.{inner_attrs}
 use Rattle.rap_grammar_table.specs.Known.{Place}
 use Rattle.rap_grammar_table.specs.Notation.{◌⊳◌, t, c, either, opt, many, until, row, of_kinds}
 use Rattle.rap_grammar_table.specs.Rows.{grammar}
 use Rattle.rap_grammar_table.specs.Table.{Items, Derives, one, rest_of, cat}
 
 -- a category's tokens, and their tree
-abbrev pub Makes : ℕ → List Record → Forest → Type 0
+abbrev pub Makes : Category → List Record → Forest → Type 0
 Makes category tokens tree = Derives grammar (one (cat category)) tokens tree
 
 -- the tokens of a row that stands alone, and the forest of its trees

@@ -5,12 +5,13 @@ use Rattle.rap_base.specs.TokenKind.{IDENT, SEMICOLON, COMMA, COLON, COLON2, DOT
 use Rattle.rap_grammar_scripts.specs.First.{one_of}
 use Rattle.rap_grammar_scripts.specs.Test.{Test, also, comes, negated, or_else}
 use Rattle.rap_grammar_scripts.specs.Words.{is_at, kind_is, next_so}
-use Rattle.rap_grammar_table.specs.Categories.{Ty, PlainTy, TyBeforePlus, AnchorTrait, Path, PathBeforePlus, UsePath, GlobalPath, AnchoredPath, Args, Argument, SimplePath, Bound, Bounds, Generics, ParamName, FnPointerParams, MacroPath, Expr, abi, attrs, macro_call, lifetime, name, name_ref, path_names, use_names}
+use Rattle.rap_grammar_table.specs.Category.{Ty, PlainTy, TyBeforePlus, AnchorTrait, Path, PathBeforePlus, UsePath, GlobalPath, AnchoredPath, Args, Argument, SimplePath, Bound, Bounds, Generics, ParamName, FnPointerParams, MacroPath, Expr, Category}
+use Rattle.rap_grammar_table.specs.SharedRows.{abi, attrs, macro_call, lifetime, name, name_ref, path_names, use_names}
 use Rattle.rap_grammar_table.specs.Known.{Place, anything}
 use Rattle.rap_grammar_table.specs.Notation.{Part, ◌⊳◌, t, ts, op, c, node, opt, either, commas, commas_last, until, alone, fold, guard, guard_before, of_kinds}
 
 -- a return type
-abbrev pub ret : ℕ → Part
+abbrev pub ret : Category → Part
 ret category = node RET_TYPE (op THIN_ARROW ⊳ c category)
 
 -- The arguments of a path's segment: in angle brackets, with `::` before them or not; types in parentheses; two dots.
@@ -32,7 +33,7 @@ opt_args = alone (opt (c Args))
 abbrev pub segment : List ℕ → Part
 segment kinds = node PATH_SEGMENT (name_ref kinds ⊳ opt_args)
 
-abbrev pub call_segment : ℕ → List ℕ → Part
+abbrev pub call_segment : Category → List ℕ → Part
 call_segment category kinds = node PATH_SEGMENT (name_ref kinds ⊳ alone (paren_args ⊳ ret category))
 
 -- what stands after a path
@@ -40,7 +41,7 @@ abbrev pub more_segments : Part
 more_segments = fold PATH (op COLON2 ⊳ segment path_names)
 
 -- a path that begins with one of these names; its return types are of this category
-abbrev pub named_paths : ℕ → List ℕ → List Part
+abbrev pub named_paths : Category → List ℕ → List Part
 named_paths category kinds =
     (node PATH (segment kinds) ⊳ more_segments)
     ∷ node PATH (call_segment category kinds)
@@ -179,7 +180,7 @@ fn_pointer_params_rows =
     commas_last (fn_pointer_param anything) (fn_pointer_param ((of_kinds (R_PAREN ∷ []) ∷ []) ∷ [])) ⊳ t R_PAREN) ∷ []
 
 -- The types that begin with a symbol or a keyword, by the category of the type at their end.
-abbrev pub fn_pointer : ℕ → Part
+abbrev pub fn_pointer : Category → Part
 fn_pointer category =
     node FN_PTR_TYPE
     (alone (opt (t UNSAFE_KW) ⊳ opt abi) ⊳ t FN_KW ⊳ c FnPointerParams ⊳ alone (opt (ret category)))
@@ -190,10 +191,10 @@ takes_for =
     or_else (next_so (one_of (FN_KW ∷ UNSAFE_KW ∷ EXTERN_KW ∷ [])))
     (or_else (next_so (one_of (IDENT ∷ SELF_KW ∷ SUPER_KW ∷ CRATE_KW ∷ []))) (is_at COLON2))
 
-abbrev pub for_type : ℕ → Part
+abbrev pub for_type : Category → Part
 for_type category = node FOR_TYPE (for_binder ⊳ guard (negated takes_for) ⊳ c category)
 
-abbrev pub symbol_types : ℕ → List Part
+abbrev pub symbol_types : Category → List Part
 symbol_types category =
     node REF_TYPE (t AMP ⊳ opt lifetime ⊳ opt (t MUT_KW) ⊳ c category)
     ∷ node PTR_TYPE (t STAR ⊳ ts (MUT_KW ∷ CONST_KW ∷ []) ⊳ c category)

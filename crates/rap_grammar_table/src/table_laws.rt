@@ -1,6 +1,6 @@
 //! Laws of what the table derives. Each is a function that does nothing and whose contract is the law.
 ghost use Rattle.rap_grammar_table.specs.Again.{MakesItsNodes};
-ghost use Rattle.rap_grammar_table.specs.Categories.{AnchoredPath, AssocItems, Block, Expr, ExternItems, FrontStmt, GlobalPath, Item, ItemList, LastStmt, MatchArms, Meta, Path, Pattern, RecordFields, RecordValues, SinglePattern, TokenTree, Ty, UseTrees, Variants, Visibility};
+ghost use Rattle.rap_grammar_table.specs.Category.{AnchoredPath, AssocItems, Block, Expr, ExternItems, FrontStmt, GlobalPath, Item, ItemList, LastStmt, MatchArms, Meta, Path, Pattern, RecordFields, RecordValues, SinglePattern, TokenTree, Ty, UseTrees, Variants, Visibility};
 ghost use Rattle.rap_grammar_table.specs.Laws.{HasOneForest, HasOneTree};
 ghost use Rattle.rap_grammar_table.specs.Tops.{file_row, items_row, stmts_row};
 

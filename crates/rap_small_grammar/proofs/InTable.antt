@@ -3,7 +3,7 @@ use Rattle.std.proofs.Common.{ℕ, List, [], ◌∷◌, ◌++◌, refl, append-n
 use Rattle.rap_events.specs.Forest.{Forest, none, ◌⧺◌}
 use Rattle.rap_events.specs.Record.{Record}
 use Rattle.rap_small_grammar.specs.Derives.{Derives, File, file_of}
-use Rattle.rap_grammar_table.specs.Categories.{Item, ItemList, RecordFields}
+use Rattle.rap_grammar_table.specs.Category.{Item, ItemList, RecordFields}
 use Rattle.rap_small_grammar.specs.Inclusion.{HoldsBlock, HoldsContents, HoldsExpression, HoldsFieldList, HoldsFile, HoldsItem, HoldsItemList, HoldsItems, HoldsStatements, HoldsType, InBlock, InFile}
 use Rattle.rap_small_grammar.proofs.Included.{included}
 use Rattle.rap_small_grammar.proofs.IncludedItems.{FieldsSo, fields_in, ItemsSo, items_in}
@@ -72,7 +72,7 @@ pub file_holds : HoldsFile
 file_holds ks t d = in_file d
 
 -- one item alone as all items of a macro, and as those of a file
-one_of_number : {c : ℕ} {ks : List Record} {t : Forest} → Makes c ks t → AnyNumber (Makes c) ks t
+one_of_number : {c : categories.Category} {ks : List Record} {t : Forest} → Makes c ks t → AnyNumber (Makes c) ks t
 one_of_number {c = c} {ks = ks} {t = t} d =
     let m : AnyNumber (Makes c) (ks ++ []) t = and_more d no_more in rw append-nil at m
 

@@ -16,7 +16,7 @@ use Rattle.rap_small_grammar.proofs.IncludedStatements as statements
 use Rattle.rap_small_grammar.proofs.IncludedStatements.{AnnotationSo, BlockSo, ContentsSo, ElseSo, IfSo, ValueSo, WithBlockSo}
 use Rattle.rap_small_grammar.proofs.IncludedTypes as types
 use Rattle.rap_small_grammar.proofs.IncludedTypes.{TypeSo}
-use Rattle.rap_grammar_table.specs.Categories as categories
+use Rattle.rap_grammar_table.specs.Category as categories
 use Rattle.rap_grammar_table.specs.Tops.{Makes}
 
 -- an operand that is one alone, or a block, a condition or a loop

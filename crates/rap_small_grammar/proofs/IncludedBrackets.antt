@@ -11,7 +11,7 @@ use Rattle.rap_small_grammar.specs.MacroCall.{IsBracketed, IsMacroCall, brackets
 use Rattle.rap_grammar_scripts.specs.Balanced.{ArePartners, Balanced, IsNoBracket, in_brackets, list_first, nothing_more, token_first}
 use Rattle.rap_grammar_table.specs.Rows.{grammar}
 use Rattle.rap_grammar_table.specs.AttributeRows.{no_brackets, tree_in}
-use Rattle.rap_grammar_table.specs.Categories.{Item, TokenTree}
+use Rattle.rap_grammar_table.specs.Category.{Item, TokenTree}
 use Rattle.rap_small_grammar.specs.Inclusion.{HoldsBrackets, HoldsCall}
 use Rattle.rap_grammar_table.specs.ItemRows.{call_words}
 use Rattle.rap_grammar_table.specs.Known.{among}

@@ -17,9 +17,10 @@ use Rattle.rap_small_grammar.proofs.IncludedTurns.{comes_from, from_of, in_close
 use Rattle.rap_small_grammar.proofs.Operators.{by_truth}
 use Rattle.rap_small_grammar.proofs.Begins.{Single}
 use Rattle.rap_grammar_table.specs.Rows.{grammar}
-use Rattle.rap_grammar_table.specs.Categories.{Assigned, Closed, Condition, Expr, Operand, StmtOperand}
+use Rattle.rap_grammar_table.specs.Category.{Assigned, Closed, Condition, Expr, Operand, StmtOperand}
 use Rattle.rap_grammar_table.specs.Known.{among}
-use Rattle.rap_grammar_table.specs.Operators.{all_turns, assign_turns, cast_turns, closed_turns, is_angled, operator, range_turn}
+use Rattle.rap_grammar_table.specs.Operators.{all_turns, assign_turns, cast_turns, closed_turns, operator, range_turn}
+use Rattle.rap_grammar_table.proofs.OperatorHints.{is_angled}
 use Rattle.rap_grammar_table.specs.Notation.{◌⊳◌}
 use Rattle.rap_grammar_table.specs.Table.{Items, nil, piece, cat, close, folds, HasWay, first_turn, other_turn, row_at}
 use Rattle.rap_grammar_table.specs.Tops.{Makes}

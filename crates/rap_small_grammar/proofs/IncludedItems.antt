@@ -12,8 +12,9 @@ use Rattle.rap_small_grammar.proofs.IncludedLists.{Optional, missing, there, Wit
 use Rattle.rap_small_grammar.proofs.IncludedRows.{Row, Turns, done, opens, closes, one_way, other_way, ends_with, repeats, none_comes, groups, groups_last, no_group, guards, makes, puts, puts_first, puts_last, puts_alone, puts_token, puts_name, puts_operator}
 use Rattle.rap_small_grammar.proofs.IncludedTypes.{TypeSo}
 use Rattle.rap_grammar_ends.proofs.Ways.{none-⧺}
-use Rattle.rap_grammar_table.specs.Categories.{Item, Block, FnParams, ParamPattern, PlainTy, RecordField, attrs}
-use Rattle.rap_grammar_table.specs.Categories as categories
+use Rattle.rap_grammar_table.specs.Category.{Item, Block, FnParams, ParamPattern, PlainTy, RecordField}
+use Rattle.rap_grammar_table.specs.SharedRows.{attrs}
+use Rattle.rap_grammar_table.specs.Category as categories
 use Rattle.rap_grammar_table.specs.ItemRows as rows
 use Rattle.rap_grammar_table.specs.Notation.{Part, ◌⊳◌, t, c, node as under, opt, either, commas}
 use Rattle.rap_grammar_table.specs.Table.{Items, nil, choice}

@@ -14,7 +14,8 @@ use Rattle.rap_small_grammar.proofs.IncludedRows.{Headed, nothing_behind, behind
 use Rattle.rap_small_grammar.proofs.IncludedTypes.{expression_path}
 use Rattle.rap_grammar_table.specs.Rows.{grammar}
 use Rattle.rap_grammar_table.proofs.Known.{by_or}
-use Rattle.rap_grammar_table.specs.Categories.{ArgList, Atom, Expr, Operand, Prefixed, StmtOperand, StmtPrefixed, WithBlock, literals}
+use Rattle.rap_grammar_table.specs.Category.{ArgList, Atom, Expr, Operand, Prefixed, StmtOperand, StmtPrefixed, WithBlock}
+use Rattle.rap_grammar_table.specs.SharedRows.{literals}
 use Rattle.rap_grammar_table.specs.ExprRows.{postfixes, prefix_before, ref_before}
 use Rattle.rap_grammar_table.specs.Known.{among}
 use Rattle.rap_grammar_table.specs.Notation.{t, c, ◌⊳◌, around}

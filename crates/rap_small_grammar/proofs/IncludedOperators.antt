@@ -13,7 +13,8 @@ use Rattle.rap_small_grammar.specs.Derives.{Writes, tokens_of}
 use Rattle.rap_small_grammar.proofs.IncludedRows.{Row, one_way, other_way, guards, puts_token, puts_operator}
 use Rattle.rap_small_grammar.proofs.Operators.{one, by_truth, no_more, amp_apart, is_operand}
 use Rattle.rap_grammar_table.specs.Known.{anything}
-use Rattle.rap_grammar_table.specs.Operators.{operator, is_angled}
+use Rattle.rap_grammar_table.specs.Operators.{operator}
+use Rattle.rap_grammar_table.proofs.OperatorHints.{is_angled}
 use Rattle.rap_grammar_table.specs.Table.{Items, nil, piece, choice, unless, appended, tok, comp}
 use Rattle.std.proofs.lemmas.Bool.{eqb-true}
 

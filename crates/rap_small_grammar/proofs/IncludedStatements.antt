@@ -15,8 +15,8 @@ use Rattle.rap_small_grammar.proofs.IncludedRows.{whole, Row, Turns, done, opens
 use Rattle.rap_small_grammar.proofs.IncludedTypes.{TypeSo}
 use Rattle.rap_grammar_ends.proofs.Ways.{none-⧺}
 use Rattle.rap_grammar_table.specs.Rows.{grammar}
-use Rattle.rap_grammar_table.specs.Categories.{Block, BlockStmt, Condition, EndingBlock, Expr, If, MacroTail, Pattern, Stmt, StmtList, StmtOperand, Tail, WithBlock}
-use Rattle.rap_grammar_table.specs.Categories as categories
+use Rattle.rap_grammar_table.specs.Category.{Block, BlockStmt, Condition, EndingBlock, Expr, If, MacroTail, Pattern, Stmt, StmtList, StmtOperand, Tail, WithBlock}
+use Rattle.rap_grammar_table.specs.Category as categories
 use Rattle.rap_grammar_table.specs.ExprRows.{block_part}
 use Rattle.rap_grammar_table.specs.Notation.{◌⊳◌, t, c, opt, either, guard}
 use Rattle.rap_grammar_table.specs.Operators.{all_turns}

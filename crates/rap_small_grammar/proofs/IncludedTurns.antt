@@ -6,7 +6,7 @@ use Rattle.rap_base.specs.NodeKind.{BIN_EXPR}
 use Rattle.rap_events.specs.Power.{power}
 use Rattle.rap_small_grammar.proofs.Operators.{by_truth}
 use Rattle.rap_grammar_table.proofs.Known.{by_or, same_number}
-use Rattle.rap_grammar_table.specs.Categories.{Closed}
+use Rattle.rap_grammar_table.specs.Category.{Closed}
 use Rattle.rap_grammar_table.specs.Known.{among}
 use Rattle.rap_grammar_table.specs.Notation.{kept, those, up_to}
 use Rattle.rap_grammar_table.specs.Operators.{all_from, up_from, from_on, operator, angled, each_power, closed_turns}

@@ -7,8 +7,9 @@ use Rattle.rap_events.specs.Record.{Record}
 use Rattle.rap_small_grammar.specs.Derives.{Is, IsName, path_one, path_more, segment, reference}
 use Rattle.rap_small_grammar.specs.Derives as old
 use Rattle.rap_small_grammar.proofs.IncludedRows.{Row, Folded, none_yet, one_more, rolled, done, opens, closes, one_way, other_way, no_group, folds_alone, makes, puts, puts_last, puts_alone, puts_token, puts_name, puts_operator}
-use Rattle.rap_grammar_table.specs.Categories.{PlainTy, lifetime, path_names}
-use Rattle.rap_grammar_table.specs.Categories as categories
+use Rattle.rap_grammar_table.specs.Category.{PlainTy}
+use Rattle.rap_grammar_table.specs.SharedRows.{lifetime, path_names}
+use Rattle.rap_grammar_table.specs.Category as categories
 use Rattle.rap_grammar_table.specs.Notation.{◌⊳◌, t, c, node as under, opt, name_words, row}
 use Rattle.rap_grammar_table.specs.Table.{Items, nil, begin, close, piece, choice, group, folds, way, first_turn, tok, comp}
 use Rattle.rap_grammar_table.specs.Tops.{Makes}

@@ -5,14 +5,14 @@ use Rattle.rap_events.specs.Record.{Record, IsTokenRecord}
 use Rattle.rap_events.specs.Forest.{Forest, none, node}
 use Rattle.rap_small_grammar.specs.Derives.{Block, Category, Contents, Derives, Expression, Fields, File, Item, Items, Many, Ty}
 use Rattle.rap_small_grammar.specs.MacroCall.{IsBracketed, IsMacroCall}
-use Rattle.rap_grammar_table.specs.Categories as categories
-use Rattle.rap_grammar_table.specs.Categories.{StmtList}
+use Rattle.rap_grammar_table.specs.Category as categories
+use Rattle.rap_grammar_table.specs.Category.{StmtList}
 use Rattle.rap_grammar_table.specs.Table as rows
 use Rattle.rap_grammar_table.specs.Tops.{Makes, MakesRow, file_row, items_row, stmts_row}
 
 -- What the small grammar derives in a category, the table derives too, with the same tree: in a category of its own, by
 -- its number, or as a row that stands alone.
-abbrev pub HoldsIn : Category → ℕ → Type 0
+abbrev pub HoldsIn : Category → categories.Category → Type 0
 HoldsIn category number =
     (tokens : List Record) (tree : Forest) → Derives category tokens tree → Makes number tokens tree
 
