@@ -22,13 +22,11 @@ abbrev pub tree_in : ℕ → ℕ → Part
 tree_in bra ket = node TOKEN_TREE (t bra ⊳ any_tokens ⊳ t ket)
 
 abbrev pub token_tree_rows : List Part
-token_tree_rows =
-    tree_in L_PAREN R_PAREN ∷ tree_in L_BRACK R_BRACK ∷ tree_in L_CURLY R_CURLY ∷ []
+token_tree_rows = tree_in L_PAREN R_PAREN ∷ tree_in L_BRACK R_BRACK ∷ tree_in L_CURLY R_CURLY ∷ []
 
 -- the path of a macro
 abbrev pub macro_path_rows : List Part
-macro_path_rows =
-    plain_path ∷ []
+macro_path_rows = plain_path ∷ []
 
 -- An attribute's path. Before a parenthesis its one name is read neither as `cfg` nor as `cfg_attr`.
 abbrev pub attr_words : Option (List ℕ)
@@ -64,8 +62,7 @@ meta_rows =
 
 -- an attribute, or a comment that is documentation
 abbrev pub attr_rows : List Part
-attr_rows =
-    node ATTR (t POUND ⊳ t L_BRACK ⊳ c Meta ⊳ t R_BRACK) ∷ node DOC_COMMENT (t OUTER_DOC_COMMENT) ∷ []
+attr_rows = node ATTR (t POUND ⊳ t L_BRACK ⊳ c Meta ⊳ t R_BRACK) ∷ node DOC_COMMENT (t OUTER_DOC_COMMENT) ∷ []
 
 -- an attribute of what it stands in
 abbrev pub inner_attr_rows : List Part

@@ -11,21 +11,17 @@ use Rattle.rap_grammar_table.specs.Operators.{all_turns, and_open, assign_turns,
 use Rattle.rap_grammar_table.specs.TypeRows.{anchored_path, fn_pointer, global_path, named_paths, ret}
 
 abbrev pub round_tree_rows : List Part
-round_tree_rows =
-    tree_in L_PAREN R_PAREN ∷ tree_in L_BRACK R_BRACK ∷ []
+round_tree_rows = tree_in L_PAREN R_PAREN ∷ tree_in L_BRACK R_BRACK ∷ []
 
 abbrev pub brace_tree_rows : List Part
-brace_tree_rows =
-    tree_in L_CURLY R_CURLY ∷ []
+brace_tree_rows = tree_in L_CURLY R_CURLY ∷ []
 
 -- The arguments of a call; and a name that is the value of its field too.
 abbrev pub arg_list_rows : List Part
-arg_list_rows =
-    node ARG_LIST (t L_PAREN ⊳ commas (c Expr) ⊳ t R_PAREN) ∷ []
+arg_list_rows = node ARG_LIST (t L_PAREN ⊳ commas (c Expr) ⊳ t R_PAREN) ∷ []
 
 abbrev pub name_expr_rows : List Part
-name_expr_rows =
-    node PATH_EXPR (node PATH (node PATH_SEGMENT (name_ref (IDENT ∷ [])))) ∷ []
+name_expr_rows = node PATH_EXPR (node PATH (node PATH_SEGMENT (name_ref (IDENT ∷ [])))) ∷ []
 
 -- a record: its fields, and what the others are taken from
 abbrev pub record_field : Part
@@ -35,8 +31,7 @@ record_field =
     either (name_ref (IDENT ∷ INT_NUMBER ∷ []) ⊳ t COLON ⊳ guard (next_is COLON) ⊳ c Expr) (c NameExpr))
 
 abbrev pub record_value_rows : List Part
-record_value_rows =
-    record_field ∷ []
+record_value_rows = record_field ∷ []
 
 abbrev pub record_values : Part
 record_values =
@@ -67,8 +62,7 @@ atoms false = record_literal ∷ plain_atoms
 atoms true = plain_atoms
 
 abbrev pub atom_rows : Bool → List Part
-atom_rows forbid =
-    atoms forbid
+atom_rows forbid = atoms forbid
 
 -- What follows an operand directly: after a field by its name, which is the number 0, no call.
 abbrev pub turbofish : Part
@@ -119,13 +113,11 @@ operand_rows forbid =
     (c (Atom forbid) ⊳ around 1 postfixes) ∷ (c WithBlock ⊳ around 1 postfixes) ∷ prefixes (Prefixed forbid)
 
 abbrev pub prefixed_rows : Bool → List Part
-prefixed_rows forbid =
-    c (Operand forbid) ∷ []
+prefixed_rows forbid = c (Operand forbid) ∷ []
 
 -- a value before an `else`, and an operand in it
 abbrev pub else_rows : List Part
-else_rows =
-    (c PlainAtom ⊳ around 1 postfixes) ∷ prefixes ElsePrefixed
+else_rows = (c PlainAtom ⊳ around 1 postfixes) ∷ prefixes ElsePrefixed
 
 -- At the beginning of a statement a block goes on only by a dot or a `?`.
 abbrev pub stmt_operand_rows : List Part
@@ -138,8 +130,7 @@ stmt_operand_rows =
     ∷ prefixes StmtPrefixed
 
 abbrev pub stmt_prefixed_rows : List Part
-stmt_prefixed_rows =
-    c StmtOperand ∷ []
+stmt_prefixed_rows = c StmtOperand ∷ []
 
 -- a block
 abbrev pub block_part : Part
@@ -166,8 +157,7 @@ open_prefixes =
     prefix_before (MINUS ∷ []) OpenPrefixed ∷ []
 
 abbrev pub open_prefixed_rows : List Part
-open_prefixed_rows =
-    c OpenAtom ∷ open_prefixes
+open_prefixed_rows = c OpenAtom ∷ open_prefixes
 
 abbrev pub closed_rows : Bool → Level → List Part
 closed_rows forbid level = (c (Operand forbid) ⊳ around fresh (closed_turns forbid (tighter level))) ∷ []
@@ -192,8 +182,7 @@ abbrev pub open_range : Bool → Part
 open_range forbid = node RANGE_EXPR (c (Operand forbid) ⊳ around fresh (cast_turns forbid levels) ⊳ op DOT2)
 
 abbrev pub ranges_to : Bool → List Part
-ranges_to forbid =
-    node RANGE_EXPR (op DOT2) ∷ node RANGE_EXPR (range_with_end forbid) ∷ []
+ranges_to forbid = node RANGE_EXPR (op DOT2) ∷ node RANGE_EXPR (range_with_end forbid) ∷ []
 
 -- any expression
 abbrev pub expr_rows : List Part
@@ -212,17 +201,14 @@ without_let =
     ranges_to true
 
 abbrev pub condition_rows : List Part
-condition_rows =
-    without_let ++ let_chain true ∷ []
+condition_rows = without_let ++ let_chain true ∷ []
 
 abbrev pub guard_rows : List Part
-guard_rows =
-    (c (Operand false) ⊳ around fresh (cast_turns false levels ⊳ range_turn false)) ∷ let_chain false ∷ []
+guard_rows = (c (Operand false) ⊳ around fresh (cast_turns false levels ⊳ range_turn false)) ∷ let_chain false ∷ []
 
 -- the types of casts
 abbrev pub cast_path_rows : List Part
-cast_path_rows =
-    global_path ∷ anchored_path ∷ named_paths CastTy path_names
+cast_path_rows = global_path ∷ anchored_path ∷ named_paths CastTy path_names
 
 abbrev pub cast_type_rows : List Part
 cast_type_rows =

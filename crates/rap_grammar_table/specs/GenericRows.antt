@@ -53,8 +53,7 @@ param_rows =
     ∷ []
 
 abbrev pub generics_rows : List Part
-generics_rows =
-    node GENERIC_PARAM_LIST (t L_ANGLE ⊳ commas (c GenericParam) ⊳ t R_ANGLE) ∷ []
+generics_rows = node GENERIC_PARAM_LIST (t L_ANGLE ⊳ commas (c GenericParam) ⊳ t R_ANGLE) ∷ []
 
 -- What a `where` says: of a lifetime, or of a type, with parameters after a `for` or without them.
 abbrev pub predicate_rows : List Part
@@ -66,5 +65,4 @@ predicate_rows =
     ∷ []
 
 abbrev pub where_rows : List Part
-where_rows =
-    node WHERE_CLAUSE (t WHERE_KW ⊳ opt (until (c Predicate ⊳ t COMMA) (c Predicate ⊳ opt (t COMMA)))) ∷ []
+where_rows = node WHERE_CLAUSE (t WHERE_KW ⊳ opt (until (c Predicate ⊳ t COMMA) (c Predicate ⊳ opt (t COMMA)))) ∷ []

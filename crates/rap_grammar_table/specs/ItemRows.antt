@@ -15,8 +15,7 @@ use Rattle.rap_grammar_table.specs.TypeRows.{ret}
 
 -- A path of plain names, as in an import; a visibility, with a restriction to a module or without one.
 abbrev pub use_path : Part
-use_path =
-    node PATH (node PATH_SEGMENT (opt (op COLON2) ⊳ name_ref use_names)) ⊳ fold PATH (op COLON2 ⊳ plain_segment)
+use_path = node PATH (node PATH_SEGMENT (opt (op COLON2) ⊳ name_ref use_names)) ⊳ fold PATH (op COLON2 ⊳ plain_segment)
 
 abbrev pub one_name : Part
 one_name = node PATH (node PATH_SEGMENT (name_ref (CRATE_KW ∷ SELF_KW ∷ SUPER_KW ∷ [])))
@@ -25,8 +24,7 @@ abbrev pub restriction : Part
 restriction = node VISIBILITY_INNER (t L_PAREN ⊳ either one_name (t IN_KW ⊳ use_path) ⊳ t R_PAREN)
 
 abbrev pub visibility_rows : List Part
-visibility_rows =
-    node VISIBILITY (t PUB_KW) ∷ node VISIBILITY (t PUB_KW ⊳ restriction) ∷ []
+visibility_rows = node VISIBILITY (t PUB_KW) ∷ node VISIBILITY (t PUB_KW ⊳ restriction) ∷ []
 
 abbrev pub opt_visibility : Part
 opt_visibility = alone (opt (c Visibility))
@@ -47,8 +45,7 @@ field_visibility =
 
 -- the fields of a struct or of a variant
 abbrev pub field_rows : List Part
-field_rows =
-    node RECORD_FIELD (attrs ⊳ opt_visibility ⊳ name ⊳ t COLON ⊳ c Ty) ∷ []
+field_rows = node RECORD_FIELD (attrs ⊳ opt_visibility ⊳ name ⊳ t COLON ⊳ c Ty) ∷ []
 
 abbrev pub record_fields : Part
 record_fields = node RECORD_FIELD_LIST (t L_CURLY ⊳ commas (c RecordField) ⊳ t R_CURLY)
@@ -194,8 +191,7 @@ tree_and_end =
     (either (tree_in L_PAREN R_PAREN ⊳ t SEMICOLON) (tree_in L_BRACK R_BRACK ⊳ t SEMICOLON))
 
 abbrev pub call_words : Option (List ℕ)
-call_words =
-    Some (EOF ∷ IDENT ∷ those (λ kind. not (kind == SAFE_KW)) (map (λ row. row.1) contextual_ever))
+call_words = Some (EOF ∷ IDENT ∷ those (λ kind. not (kind == SAFE_KW)) (map (λ row. row.1) contextual_ever))
 
 abbrev pub call_path : Part
 call_path =
@@ -209,5 +205,4 @@ macro_items =
     ∷ []
 
 abbrev pub item_rows : List Part
-item_rows =
-    struct_items ++ other_items ++ import_items ++ trait_items ++ macro_items
+item_rows = struct_items ++ other_items ++ import_items ++ trait_items ++ macro_items

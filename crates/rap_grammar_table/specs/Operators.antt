@@ -30,15 +30,9 @@ operator Sum = either (t PLUS) (t MINUS)
 operator Product = any_of (t PERCENT ∷ t SLASH ∷ t STAR ∷ [])
 
 abbrev pub angled_operators : Level → List Part
-angled_operators Or = []
-angled_operators And = []
 angled_operators Comparison = single L_ANGLE SHL ∷ []
-angled_operators BitOr = []
-angled_operators BitXor = []
-angled_operators BitAnd = []
 angled_operators Shift = op SHL ∷ []
-angled_operators Sum = []
-angled_operators Product = []
+angled_operators level = []
 
 abbrev pub assignment : Part
 assignment =
@@ -52,8 +46,7 @@ angled_assignment = op SHLEQ
 -- what ends an expression, where no record literal may stand and where one may
 abbrev pub expr_ends : Bool → List (List Place)
 expr_ends true = (of_kinds (L_CURLY ∷ []) ∷ []) ∷ []
-expr_ends false =
-    (of_kinds (EOF ∷ SEMICOLON ∷ COMMA ∷ R_PAREN ∷ R_BRACK ∷ R_CURLY ∷ WHERE_KW ∷ []) ∷ []) ∷ []
+expr_ends false = (of_kinds (EOF ∷ SEMICOLON ∷ COMMA ∷ R_PAREN ∷ R_BRACK ∷ R_CURLY ∷ WHERE_KW ∷ []) ∷ []) ∷ []
 
 -- the tighter levels; this one and these; and all
 abbrev pub tighter : Level → List Level

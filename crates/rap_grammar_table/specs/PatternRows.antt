@@ -27,8 +27,7 @@ single_follows = (of_kinds (PIPE ∷ pattern_ends) ∷ []) ∷ type_colon ∷ []
 
 -- a literal, with a minus where it is a number
 abbrev pub literal_pattern : Part
-literal_pattern =
-    node LITERAL_PAT (either literal (t MINUS ⊳ node LITERAL (ts (INT_NUMBER ∷ FLOAT_NUMBER ∷ []))))
+literal_pattern = node LITERAL_PAT (either literal (t MINUS ⊳ node LITERAL (ts (INT_NUMBER ∷ FLOAT_NUMBER ∷ []))))
 
 -- an identifier comes next that begins no path of several names, no path with fields, and no macro call
 abbrev pub is_lone_name : Test
@@ -68,8 +67,7 @@ single_rows =
     ∷ []
 
 abbrev pub rest_rows : List Part
-rest_rows =
-    node REST_PAT (op DOT2) ∷ []
+rest_rows = node REST_PAT (op DOT2) ∷ []
 
 -- a pattern, with its alternatives
 abbrev pub or_rows : List Part

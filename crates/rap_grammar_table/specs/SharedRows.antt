@@ -27,8 +27,7 @@ abbrev pub abi : Part
 abi = node ABI (t EXTERN_KW ⊳ opt (t STRING))
 
 abbrev pub literals : List ℕ
-literals =
-    TRUE_KW ∷ FALSE_KW ∷ INT_NUMBER ∷ FLOAT_NUMBER ∷ BYTE ∷ CHAR ∷ STRING ∷ BYTE_STRING ∷ C_STRING ∷ []
+literals = TRUE_KW ∷ FALSE_KW ∷ INT_NUMBER ∷ FLOAT_NUMBER ∷ BYTE ∷ CHAR ∷ STRING ∷ BYTE_STRING ∷ C_STRING ∷ []
 
 abbrev pub literal : Part
 literal = node LITERAL (ts literals)
@@ -65,8 +64,7 @@ ends =
 
 -- what a bound begins with, but for `::`
 abbrev pub bound_kinds : List ℕ
-bound_kinds =
-    LIFETIME_IDENT ∷ FOR_KW ∷ USE_KW ∷ TILDE ∷ L_BRACK ∷ CONST_KW ∷ ASYNC_KW ∷ QUESTION ∷ L_PAREN ∷ use_names
+bound_kinds = LIFETIME_IDENT ∷ FOR_KW ∷ USE_KW ∷ TILDE ∷ L_BRACK ∷ CONST_KW ∷ ASYNC_KW ∷ QUESTION ∷ L_PAREN ∷ use_names
 
 -- what may follow a type, where a `:` is that of bounds, and one before a `+`
 abbrev pub bounds_colon : List (List Place)
@@ -80,5 +78,4 @@ plus_follows = (of_kinds (PLUS ∷ ends) ∷ []) ∷ bounds_colon
 
 -- what else a type begins with
 abbrev pub symbol_kinds : List ℕ
-symbol_kinds =
-    AMP ∷ L_BRACK ∷ BANG ∷ STAR ∷ L_ANGLE ∷ FN_KW ∷ UNSAFE_KW ∷ EXTERN_KW ∷ FOR_KW ∷ IMPL_KW ∷ DYN_KW ∷ []
+symbol_kinds = AMP ∷ L_BRACK ∷ BANG ∷ STAR ∷ L_ANGLE ∷ FN_KW ∷ UNSAFE_KW ∷ EXTERN_KW ∷ FOR_KW ∷ IMPL_KW ∷ DYN_KW ∷ []

@@ -23,8 +23,7 @@ stmt_list_rows =
     ∷ []
 
 abbrev pub block_rows : List Part
-block_rows =
-    block_part ∷ []
+block_rows = block_part ∷ []
 
 abbrev pub if_after : Part → Part
 if_after pre = node IF_EXPR (pre ⊳ t IF_KW ⊳ c Condition ⊳ c Block ⊳ opt (t ELSE_KW ⊳ either (c If) block_part))
@@ -33,20 +32,17 @@ abbrev pub none_before : Part
 none_before r = r
 
 abbrev pub if_rows : List Part
-if_rows =
-    if_after none_before ∷ []
+if_rows = if_after none_before ∷ []
 
 -- the arms of a `match`
 abbrev pub arm_head : Part
 arm_head = attrs ⊳ c Pattern ⊳ opt (node MATCH_GUARD (t IF_KW ⊳ c Guard)) ⊳ op FAT_ARROW
 
 abbrev pub arm_rows : List Part
-arm_rows =
-    node MATCH_ARM (arm_head ⊳ either (c StmtExpr ⊳ t COMMA) (c StmtBlock ⊳ opt (t COMMA))) ∷ []
+arm_rows = node MATCH_ARM (arm_head ⊳ either (c StmtExpr ⊳ t COMMA) (c StmtBlock ⊳ opt (t COMMA))) ∷ []
 
 abbrev pub last_arm_rows : List Part
-last_arm_rows =
-    node MATCH_ARM (arm_head ⊳ c StmtExpr) ∷ []
+last_arm_rows = node MATCH_ARM (arm_head ⊳ c StmtExpr) ∷ []
 
 abbrev pub match_arms : Part
 match_arms = node MATCH_ARM_LIST (t L_CURLY ⊳ inner_attrs ⊳ until (c Arm) (opt (c LastArm)) ⊳ t R_CURLY)
@@ -83,20 +79,17 @@ abbrev pub attributed_call : Part
 attributed_call = node MACRO_EXPR (some_attrs ⊳ node MACRO_CALL (c AtomPath ⊳ t BANG ⊳ c RoundTree))
 
 abbrev pub with_block_rows : List Part
-with_block_rows =
-    with_blocks none_before
+with_block_rows = with_blocks none_before
 
 -- Expressions at the beginning of a statement, and in an arm: one that does not end with its block, and one that does.
 abbrev pub stmt_exprs : List Part
 stmt_exprs = (c StmtOperand ⊳ around fresh all_turns) ∷ c OpenAtom ∷ []
 
 abbrev pub ending_block_rows : List Part
-ending_block_rows =
-    with_blocks none_before
+ending_block_rows = with_blocks none_before
 
 abbrev pub stmt_block_rows : List Part
-stmt_block_rows =
-    c EndingBlock ∷ []
+stmt_block_rows = c EndingBlock ∷ []
 
 abbrev pub under_stmt : List Part → List Part
 under_stmt [] = []
@@ -109,8 +102,7 @@ abbrev pub let_stmt : Part → Part
 let_stmt end = node LET_STMT (let_head ⊳ opt (t EQ ⊳ c Expr) ⊳ end)
 
 abbrev pub let_else : Category → Part → Part
-let_else category end =
-    node LET_STMT (let_head ⊳ t EQ ⊳ c category ⊳ node LET_ELSE (t ELSE_KW ⊳ c Block) ⊳ end)
+let_else category end = node LET_STMT (let_head ⊳ t EQ ⊳ c category ⊳ node LET_ELSE (t ELSE_KW ⊳ c Block) ⊳ end)
 
 abbrev pub macro_rules : Part
 macro_rules = node MACRO_RULES (attrs ⊳ opt_visibility ⊳ weak MACRO_RULES_KW ⊳ t BANG ⊳ name ⊳ tree_and_end)
@@ -124,12 +116,10 @@ stmt_rows =
     (under_stmt (c EndingBlock ∷ (stmt_exprs ++ attributed_call ∷ attributed_blocks)) ++ stmt_items)
 
 abbrev pub empty_stmt_rows : List Part
-empty_stmt_rows =
-    t SEMICOLON ∷ []
+empty_stmt_rows = t SEMICOLON ∷ []
 
 abbrev pub block_stmt_rows : List Part
-block_stmt_rows =
-    node EXPR_STMT (c EndingBlock) ∷ each_under EXPR_STMT attributed_blocks
+block_stmt_rows = node EXPR_STMT (c EndingBlock) ∷ each_under EXPR_STMT attributed_blocks
 
 -- the value of a block, and of a macro's statements
 abbrev pub tail_rows : List Part

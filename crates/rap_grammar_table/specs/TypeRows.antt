@@ -16,8 +16,7 @@ ret category = node RET_TYPE (op THIN_ARROW ⊳ c category)
 
 -- The arguments of a path's segment: in angle brackets, with `::` before them or not; types in parentheses; two dots.
 abbrev pub paren_args : Part
-paren_args =
-    node PARENTHESIZED_ARG_LIST (opt (op COLON2) ⊳ t L_PAREN ⊳ commas (node TYPE_ARG (c Ty)) ⊳ t R_PAREN)
+paren_args = node PARENTHESIZED_ARG_LIST (opt (op COLON2) ⊳ t L_PAREN ⊳ commas (node TYPE_ARG (c Ty)) ⊳ t R_PAREN)
 
 abbrev pub args_rows : List Part
 args_rows =
@@ -52,35 +51,29 @@ named_paths category kinds =
     ∷ []
 
 abbrev pub path_rows : List Part
-path_rows =
-    named_paths PlainTy path_names
+path_rows = named_paths PlainTy path_names
 
 abbrev pub path_before_plus_rows : List Part
-path_before_plus_rows =
-    named_paths TyBeforePlus path_names
+path_before_plus_rows = named_paths TyBeforePlus path_names
 
 abbrev pub use_path_rows : List Part
-use_path_rows =
-    named_paths TyBeforePlus use_names
+use_path_rows = named_paths TyBeforePlus use_names
 
 -- a path that begins with `::`, and one that begins with a type
 abbrev pub global_path : Part
 global_path = node PATH (node PATH_SEGMENT (op COLON2 ⊳ name_ref path_names ⊳ opt_args)) ⊳ more_segments
 
 abbrev pub global_path_rows : List Part
-global_path_rows =
-    global_path ∷ []
+global_path_rows = global_path ∷ []
 
 abbrev pub anchor : Part
 anchor = node TYPE_ANCHOR (t L_ANGLE ⊳ c Ty ⊳ opt (t AS_KW ⊳ c AnchorTrait) ⊳ t R_ANGLE)
 
 abbrev pub anchored_path : Part
-anchored_path =
-    node PATH (node PATH (node PATH_SEGMENT anchor) ⊳ op COLON2 ⊳ segment path_names) ⊳ more_segments
+anchored_path = node PATH (node PATH (node PATH_SEGMENT anchor) ⊳ op COLON2 ⊳ segment path_names) ⊳ more_segments
 
 abbrev pub anchored_path_rows : List Part
-anchored_path_rows =
-    anchored_path ∷ []
+anchored_path_rows = anchored_path ∷ []
 
 -- a path in an expression, where `::` stands before its arguments
 abbrev pub expr_segment : Part
@@ -105,12 +98,10 @@ expr_path_rows =
 
 -- a path with no return type, before a `for`, and the trait that it is
 abbrev pub simple_path_rows : List Part
-simple_path_rows =
-    (node PATH (segment path_names) ⊳ more_segments) ∷ []
+simple_path_rows = (node PATH (segment path_names) ⊳ more_segments) ∷ []
 
 abbrev pub anchor_trait_rows : List Part
-anchor_trait_rows =
-    node PATH_TYPE (c UsePath) ∷ node PATH_TYPE (c GlobalPath) ∷ []
+anchor_trait_rows = node PATH_TYPE (c UsePath) ∷ node PATH_TYPE (c GlobalPath) ∷ []
 
 -- the parameters after a `for`
 abbrev pub for_binder : Part
@@ -145,8 +136,7 @@ alone_or_in_parens (a ∷ more) =
     node TYPE_BOUND (alone a) ∷ node TYPE_BOUND (t L_PAREN ⊳ alone a ⊳ t R_PAREN) ∷ alone_or_in_parens more
 
 abbrev pub bound_rows : List Part
-bound_rows =
-    alone_or_in_parens bare_bounds
+bound_rows = alone_or_in_parens bare_bounds
 
 -- bounds with `+` between them, and one behind the last or none
 abbrev pub bounds : Part
@@ -156,12 +146,10 @@ abbrev pub bound_list : Part
 bound_list = node TYPE_BOUND_LIST bounds
 
 abbrev pub bounds_rows : List Part
-bounds_rows =
-    bound_list ∷ []
+bounds_rows = bound_list ∷ []
 
 abbrev pub param_name_rows : List Part
-param_name_rows =
-    node IDENT_PAT name ∷ node WILDCARD_PAT (t UNDERSCORE) ∷ []
+param_name_rows = node IDENT_PAT name ∷ node WILDCARD_PAT (t UNDERSCORE) ∷ []
 
 -- a name and a colon come next
 abbrev pub has_name : Test
@@ -231,8 +219,7 @@ bounded_symbol_types =
     ∷ []
 
 abbrev pub trait_ref_rows : List Part
-trait_ref_rows =
-    node PATH_TYPE (c SimplePath) ∷ []
+trait_ref_rows = node PATH_TYPE (c SimplePath) ∷ []
 
 abbrev pub type_rows : List Part
 type_rows =
@@ -240,14 +227,11 @@ type_rows =
     (symbol_types PlainTy ++ trait_types ++ bounded_symbol_types)
 
 abbrev pub plain_type_rows : List Part
-plain_type_rows =
-    node PATH_TYPE (c Path) ∷ macro_type ∷ (symbol_types PlainTy ++ trait_types)
+plain_type_rows = node PATH_TYPE (c Path) ∷ macro_type ∷ (symbol_types PlainTy ++ trait_types)
 
 abbrev pub type_before_plus_rows : List Part
-type_before_plus_rows =
-    node PATH_TYPE (c PathBeforePlus) ∷ macro_type ∷ symbol_types TyBeforePlus
+type_before_plus_rows = node PATH_TYPE (c PathBeforePlus) ∷ macro_type ∷ symbol_types TyBeforePlus
 
 -- those that begin with no name, as arguments
 abbrev pub symbol_type_rows : List Part
-symbol_type_rows =
-    symbol_types PlainTy ++ trait_types ++ bounded_symbol_types
+symbol_type_rows = symbol_types PlainTy ++ trait_types ++ bounded_symbol_types

@@ -11,6 +11,7 @@ use Rattle.rap_small_grammar.proofs.IncludedLists.{AnyNumber, and_more, any_numb
 use Rattle.rap_small_grammar.proofs.IncludedRows.{Row, Turns, done, opens, closes, makes, one_way, other_way, none_comes, puts_token, repeats}
 use Rattle.rap_small_grammar.proofs.IncludedStatements.{BlockSo, block_in, block_made, ContentsSo, empty, full}
 use Rattle.rap_grammar_ends.proofs.Ways.{none-⧺}
+use Rattle.rap_grammar_table.specs.Category as categories
 use Rattle.rap_grammar_table.specs.Table as rows
 use Rattle.rap_grammar_table.specs.Table.{nil, repeat}
 use Rattle.rap_grammar_table.specs.Tops.{Makes, MakesRow, file_row, items_row, stmts_row}

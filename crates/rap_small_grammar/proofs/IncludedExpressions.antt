@@ -1,5 +1,5 @@
 -- Expressions of the core grammar are in the table.
-use Rattle.std.proofs.Common.{◌≡◌, ◌≢◌, ◌≤◌, ℕ, suc, Bool, true, false, not, ◌&&◌, ◌||◌, ◌==◌, List, [], ◌∷◌, ◌++◌, Some, refl, sym, subst, ◌∙◌, arith}
+use Rattle.std.proofs.Common.{◌≡◌, ◌≢◌, ◌≤◌, ℕ, suc, Bool, true, false, not, ◌&&◌, ◌||◌, ◌==◌, List, [], ◌∷◌, ◌++◌, Some, map, refl, sym, subst, ◌∙◌, arith}
 use Rattle.std.proofs.lemmas.Bool.{eqb-true, eq-eqb}
 use Rattle.std.proofs.lemmas.Bool.Decides.{nat_tests}
 use Rattle.rap_base.specs.NodeKind.{BIN_EXPR}
@@ -13,17 +13,29 @@ use Rattle.rap_small_grammar.specs.Derives.{starts_with_block}
 use Rattle.rap_small_grammar.proofs.IncludedOperands.{UnarySo}
 use Rattle.rap_small_grammar.proofs.IncludedOperators.{Written, stood, is_used}
 use Rattle.rap_small_grammar.proofs.IncludedRows.{Headed, FoldsTo, nothing_behind, behind_it, said_so, whole, Row, Folded, none_yet, one_more, rolled, done, closes, makes, puts_last}
-use Rattle.rap_small_grammar.proofs.IncludedTurns.{comes_from, from_of, in_closed, powers_of, turn_items}
+use Rattle.rap_small_grammar.proofs.IncludedTurns.{all_levels, among_tighter, comes_from, comes_last, from_of, in_closed, level, operator_of, powers_of, turn_items}
 use Rattle.rap_small_grammar.proofs.Operators.{by_truth}
 use Rattle.rap_small_grammar.proofs.Begins.{Single}
 use Rattle.rap_grammar_table.specs.Rows.{grammar}
-use Rattle.rap_grammar_table.specs.Category.{Assigned, Closed, Condition, Expr, Operand, StmtOperand}
+use Rattle.rap_grammar_table.specs.Category.{Category, Assigned, Closed, Condition, Expr, Operand, StmtOperand}
 use Rattle.rap_grammar_table.specs.Known.{among}
-use Rattle.rap_grammar_table.specs.Operators.{all_turns, assign_turns, cast_turns, closed_turns, operator, range_turn}
+use Rattle.rap_grammar_table.specs.Operators.{all_turns, assign_turns, behind, cast_turns, closed_turns, levels, range_turn, tighter}
 use Rattle.rap_grammar_table.proofs.OperatorHints.{is_angled}
 use Rattle.rap_grammar_table.specs.Notation.{◌⊳◌}
 use Rattle.rap_grammar_table.specs.Table.{Items, nil, piece, cat, close, folds, HasWay, first_turn, other_turn, row_at}
 use Rattle.rap_grammar_table.specs.Tops.{Makes}
+
+-- the powers of operators between operands, of both sorts
+least_power : (angle : Bool) (q : ℕ) → among (powers_of angle) q ≡ true → 3 ≤ q
+least_power false q m = grind (arith, nat_tests)
+least_power true q m = grind (arith, nat_tests)
+
+most_power : (angle : Bool) (q : ℕ) → among (powers_of angle) q ≡ true → q ≤ 11
+most_power false q m = grind (arith, nat_tests)
+most_power true q m = grind (arith, nat_tests)
+
+among_levels : (angle : Bool) (q : ℕ) → among (powers_of angle) q ≡ true → among (map behind levels) q ≡ true
+among_levels angle q m = all_levels q (least_power angle q m) (most_power angle q m)
 
 -- One of the powers of operators between operands, of which each has a row.
 pub record IsBinary (op : ℕ) : Type 0 where
@@ -34,7 +46,7 @@ pub record IsBinary (op : ℕ) : Type 0 where
 pub data Operated (forbid : Bool) (x : Forest) : List Record → Forest → ℕ → Type 0 where
   operand : Operated forbid x [] x 12
   operated : {op m : ℕ} {ks os js : List Record} {u v : Forest} → Operated forbid x ks u m → power op ≤ m →
-      IsBinary op → Written op os js → Makes (Closed forbid (suc (power op))) js v →
+      IsBinary op → Written op os js → Makes (Closed forbid (level (power op))) js v →
       Operated forbid x (ks ++ (os ++ js)) (node none BIN_EXPR (leaf u op (width op) ⧺ v)) (power op)
 
 -- all turns of operators of at least this power are among these
@@ -74,7 +86,7 @@ listed_power op b =
 
 -- the number is a power of an operator, or 12
 record Bounds (m : ℕ) : Type 0 where
-  least : 1 ≤ m
+  least : 3 ≤ m
   most : m ≤ 12
 
 bounds : {f : Bool} {x u : Forest} {ks : List Record} {m : ℕ} → Operated f x ks u m → Bounds m
@@ -83,7 +95,7 @@ bounds (operated {op = op} o l b w d) =
     record { least = omega (arith, b.least); most = omega (arith, b.most) }
 
 binary_row : (f : Bool) {op : ℕ} {os js : List Record} {u v : Forest} → IsBinary op → Written op os js →
-    Makes (Closed f (suc (power op))) js v →
+    Makes (Closed f (level (power op))) js v →
     Row (turn_items f (is_angled op) (power op)) u (none ∷ []) (os ++ js) (node none BIN_EXPR (leaf u op (width op) ⧺ v))
 binary_row f {op = op} b w d =
     (stood op (omega (arith, b.least)) (binary_used (power op) b.least b.most)).row w (puts_last d (closes done))
@@ -94,7 +106,7 @@ to_turns h operand l = none_yet
 to_turns {f = f} {p = p} h (operated {op = op} {m = m} o n b w d) l =
     let k = bounds o in
     one_more (to_turns h o (omega (arith, n, l))) (h.turn (is_angled op) (power op) l (listed_power op b))
-    (comes_from (is_angled op) (power op) m n k.least k.most) (binary_row f b w d)
+    (comes_from (is_angled op) (power op) m b.least b.most n k.most) (binary_row f b w d)
 
 -- An operand of this category with operators of at least a power behind it.
 pub record OperatedTo (forbid : Bool) (p : ℕ) (t x : Forest) (ks : List Record) : Type 0 where
@@ -102,7 +114,7 @@ pub record OperatedTo (forbid : Bool) (p : ℕ) (t x : Forest) (ks : List Record
   pub above : p ≤ number
   pub more : Operated forbid x ks t number
 
-abbrev pub OperandsSo : Bool → ℕ → ℕ → List Record → Forest → Type 0
+abbrev pub OperandsSo : Bool → Category → ℕ → List Record → Forest → Type 0
 OperandsSo forbid category p ks t = Headed category (OperatedTo forbid p t) ks
 
 pub record BinarySo (p : ℕ) (ks : List Record) (t : Forest) : Type 0 where
@@ -110,7 +122,7 @@ pub record BinarySo (p : ℕ) (ks : List Record) (t : Forest) : Type 0 where
   pub forbidden : OperandsSo true (Operand true) p ks t
   pub stmt : starts_with_block ks ≡ false → OperandsSo false StmtOperand p ks t
 
-lone : {f : Bool} {h kind : ℕ} {ks : List Record} {children : Forest} → Makes h ks (node none kind children) →
+lone : {f : Bool} {h : Category} {kind : ℕ} {ks : List Record} {children : Forest} → Makes h ks (node none kind children) →
     OperandsSo f h 12 ks (node none kind children)
 lone d = nothing_behind d (record { number = 12; above = omega arith; more = operand })
 
@@ -123,50 +135,35 @@ unary_binary {ks = ks} s d =
     subst (λ (y : Forest). BinarySo 12 ks y) (sym s.is)
     (lone_so s.kind s.children (subst (λ (y : Forest). UnarySo ks y) s.is d))
 
-looser : {f : Bool} {h p : ℕ} {ks : List Record} {t : Forest} → OperandsSo f h (suc p) ks t → OperandsSo f h p ks t
+looser : {f : Bool} {h : Category} {p : ℕ} {ks : List Record} {t : Forest} → OperandsSo f h (suc p) ks t → OperandsSo f h p ks t
 looser d = said_so (λ x ms o. record { number = o.number; above = omega (arith, o.above); more = o.more }) d
 
 pub tighter_binary : {p : ℕ} {ks : List Record} {t : Forest} → BinarySo (suc p) ks t → BinarySo p ks t
 tighter_binary d =
     record { free = looser d.free; forbidden = looser d.forbidden; stmt = λ s. looser (d.stmt s) }
 
--- this number, or another one
-at_or : (P : ℕ → Type 0) (k p : ℕ) → P k → (p ≢ k → P p) → P p
-at_or P k p a f =
-    by_truth (k == p) (λ e. subst P (eqb-true k p e) a) (λ e. f (λ i. let n : (k == p) ≡ true = eq-eqb k p (sym i) in
-    let x : true ≡ false = sym n ∙ e in cc))
-
--- the right operand
+-- the right operand of an operator with this power
 abbrev closed_items : Bool → ℕ → Items
-closed_items forbid p = piece (cat (Operand forbid)) (folds 12 (closed_turns forbid p nil) nil)
+closed_items forbid p = piece (cat (Operand forbid)) (folds 12 (closed_turns forbid (tighter (level p)) nil) nil)
 
-abbrev ClosedAt : Bool → ℕ → Type 0
-ClosedAt forbid p = row_at 0 (grammar (Closed forbid p)) ≡ Some (closed_items forbid p)
+closed_has : (f : Bool) (p : ℕ) → 3 ≤ p → p ≤ 11 → HasTurns f (suc p) (closed_turns f (tighter (level p)) nil)
+closed_has f p lo hi =
+    record {
+      turn = λ angle q h m.
+          in_closed f angle (tighter (level p)) q nil
+          (among_tighter p lo hi q (omega (arith, h)) (most_power angle q m)) m;
+    }
 
--- the numbers from 4 to 12
-four_on : (P : ℕ → Type 0) (p : ℕ) → 4 ≤ p → p ≤ 12 → P 4 → P 5 → P 6 → P 7 → P 8 → P 9 → P 10 → P 11 → P 12 → P p
-four_on P p lo hi a b d e f g h i j =
-    at_or P 4 p a (λ n4. at_or P 5 p b (λ n5. at_or P 6 p d (λ n6. at_or P 7 p e (λ n7. at_or P 8 p f
-    (λ n8. at_or P 9 p g (λ n9. at_or P 10 p h (λ n10. at_or P 11 p i (λ n11. at_or P 12 p j
-    (λ n12. absurd (omega arith))))))))))
-
-closed_at : (f : Bool) (p : ℕ) → 4 ≤ p → p ≤ 12 → ClosedAt f p
-closed_at false p lo hi = four_on (ClosedAt false) p lo hi refl refl refl refl refl refl refl refl refl
-closed_at true p lo hi = four_on (ClosedAt true) p lo hi refl refl refl refl refl refl refl refl refl
-
-closed_has : (f : Bool) (p : ℕ) → HasTurns f p (closed_turns f p nil)
-closed_has f p = record { turn = λ angle q h m. in_closed f angle p q nil h m }
-
-folds_so : {f : Bool} {h p : ℕ} {ws : Items} {ks : List Record} {t : Forest} → HasTurns f p ws →
+folds_so : {f : Bool} {h : Category} {p : ℕ} {ws : Items} {ks : List Record} {t : Forest} → HasTurns f p ws →
     OperandsSo f h p ks t → Headed h (FoldsTo 12 ws t) ks
 folds_so w d = said_so (λ x ms o. rolled (to_turns w o.more o.above)) d
 
-closed : {f : Bool} {p : ℕ} {ks : List Record} {t : Forest} → 4 ≤ p → p ≤ 12 → OperandsSo f (Operand f) p ks t →
-    Makes (Closed f p) ks t
-closed {f = f} {p = p} lo hi d = makes 0 (closed_at f p lo hi) (whole (folds_so (closed_has f p) d))
+closed : {f : Bool} {p : ℕ} {ks : List Record} {t : Forest} → 3 ≤ p → p ≤ 11 →
+    OperandsSo f (Operand f) (suc p) ks t → Makes (Closed f (level p)) ks t
+closed {f = f} {p = p} lo hi d = makes 0 refl (whole (folds_so (closed_has f p lo hi) d))
 
-operate : {f : Bool} {h op : ℕ} {ks os js : List Record} {t u : Forest} → OperandsSo f h (power op) ks t →
-    IsBinary op → Written op os js → Makes (Closed f (suc (power op))) js u →
+operate : {f : Bool} {h : Category} {op : ℕ} {ks os js : List Record} {t u : Forest} → OperandsSo f h (power op) ks t →
+    IsBinary op → Written op os js → Makes (Closed f (level (power op))) js u →
     OperandsSo f h (power op) (ks ++ (os ++ js)) (node none BIN_EXPR (leaf t op (width op) ⧺ u))
 operate {op = op} {os = os} {js = js} d b w e =
     behind_it (os ++ js)
@@ -177,11 +174,11 @@ operate_all : {op : ℕ} {ks os js : List Record} {t u : Forest} → BinarySo (p
     (starts_with_block (ks ++ (os ++ js)) ≡ starts_with_block ks) →
     BinarySo (power op) (ks ++ (os ++ js)) (node none BIN_EXPR (leaf t op (width op) ⧺ u))
 operate_all {op = op} d b w e s =
-    let free : Makes (Closed false (suc (power op))) _ _ =
-    closed (omega (arith, b.least)) (omega (arith, b.most)) e.free in
+    let free : Makes (Closed false (level (power op))) _ _ =
+    closed b.least b.most e.free in
     record {
       free = operate d.free b w free;
-      forbidden = operate d.forbidden b w (closed (omega (arith, b.least)) (omega (arith, b.most)) e.forbidden);
+      forbidden = operate d.forbidden b w (closed b.least b.most e.forbidden);
       stmt = λ i. operate (d.stmt (sym s ∙ i)) b w free;
     }
 
@@ -196,11 +193,11 @@ operator_binary {op = op} {ks = ks} {os = os} {js = js} {t = t} {u = u} lo hi e 
     (subst (λ (q : ℕ). BinarySo (suc q) js u) (sym e) r) s)
 
 -- Assignments. An operand of this category with nodes around it.
-abbrev pub Expressed : ℕ → Items → List Record → Forest → Type 0
+abbrev pub Expressed : Category → Items → List Record → Forest → Type 0
 Expressed category ws ks t = Headed category (FoldsTo 12 ws t) ks
 
 abbrev pub condition_turns : Items
-condition_turns = (cast_turns true 3 ⊳ range_turn true ⊳ assign_turns Assigned) nil
+condition_turns = (cast_turns true levels ⊳ range_turn true ⊳ assign_turns Assigned) nil
 
 pub record ExpressionSo (ks : List Record) (t : Forest) : Type 0 where
   pub any : Makes Expr ks t
@@ -209,10 +206,10 @@ pub record ExpressionSo (ks : List Record) (t : Forest) : Type 0 where
   pub stmt : starts_with_block ks ≡ false → Expressed StmtOperand (all_turns nil) ks t
 
 free_turns : HasTurns false 3 (all_turns nil)
-free_turns = record { turn = λ angle q h m. other_turn (in_closed false angle 3 q _ h m) }
+free_turns = record { turn = λ angle q h m. other_turn (in_closed false angle levels q _ (among_levels angle q m) m) }
 
 forbidden_turns : HasTurns true 3 condition_turns
-forbidden_turns = record { turn = λ angle q h m. other_turn (in_closed true angle 3 q _ h m) }
+forbidden_turns = record { turn = λ angle q h m. other_turn (in_closed true angle levels q _ (among_levels angle q m) m) }
 
 expression_of : {ks : List Record} {t : Forest} → Expressed (Operand false) (all_turns nil) ks t →
     Expressed (Operand true) condition_turns ks t →
@@ -230,10 +227,10 @@ binary_expression d =
     expression_of (folds_so free_turns d.free) (folds_so forbidden_turns d.forbidden)
     (λ s. folds_so free_turns (d.stmt s))
 
-abbrev assign_items : Bool → ℕ → Items
-assign_items angle category = operator angle 1 (piece (cat category) (close BIN_EXPR nil))
+abbrev assign_items : Bool → Category → Items
+assign_items angle category = operator_of angle 1 (piece (cat category) (close BIN_EXPR nil))
 
-behind_casts : (f : Bool) (r : Items) {a : Items} {is : List ℕ} {m : ℕ} → HasWay r is a m → HasWay (cast_turns f 3 r) is a m
+behind_casts : (f : Bool) (r : Items) {a : Items} {is : List ℕ} {m : ℕ} → HasWay r is a m → HasWay (cast_turns f levels r) is a m
 behind_casts f r h =
     other_turn (other_turn (other_turn (other_turn (other_turn (other_turn (other_turn (other_turn
     (other_turn (other_turn (other_turn (other_turn (other_turn (other_turn (other_turn (other_turn
@@ -247,15 +244,15 @@ forbidden_assign : (angle : Bool) → HasWay condition_turns (from_of angle 1) (
 forbidden_assign false = behind_casts true _ (other_turn first_turn)
 forbidden_assign true = behind_casts true _ (other_turn (other_turn first_turn))
 
-assign_row : {h op : ℕ} {os js : List Record} {u v : Forest} → power op ≡ 1 → Written op os js → Makes h js v →
+assign_row : {h : Category} {op : ℕ} {os js : List Record} {u v : Forest} → power op ≡ 1 → Written op os js → Makes h js v →
     Row (assign_items (is_angled op) h) u (none ∷ []) (os ++ js) (node none BIN_EXPR (leaf u op (width op) ⧺ v))
 assign_row {h = h} {op = op} {os = os} {js = js} {u = u} {v = v} e w d =
     subst
-    (λ (q : ℕ). Row (operator (is_angled op) q (piece (cat h) (close BIN_EXPR nil))) u (none ∷ []) (os ++ js)
+    (λ (q : ℕ). Row (operator_of (is_angled op) q (piece (cat h) (close BIN_EXPR nil))) u (none ∷ []) (os ++ js)
     (node none BIN_EXPR (leaf u op (width op) ⧺ v))) e
     ((stood op (omega (arith, e)) (rw e refl)).row w (puts_last d (closes done)))
 
-assign : {f : Bool} {h goal op : ℕ} {ws : Items} {ks os js : List Record} {t u : Forest} → HasTurns f 3 ws →
+assign : {f : Bool} {h goal : Category} {op : ℕ} {ws : Items} {ks os js : List Record} {t u : Forest} → HasTurns f 3 ws →
     ((angle : Bool) → HasWay ws (from_of angle 1) (assign_items angle goal) 0) → OperandsSo f h 3 ks t →
     power op ≡ 1 → Written op os js → Makes goal js u →
     Expressed h ws (ks ++ (os ++ js)) (node none BIN_EXPR (leaf t op (width op) ⧺ u))
@@ -264,7 +261,7 @@ assign {op = op} {os = os} {js = js} w a d e i m =
     (λ x ms o.
     let k = bounds o.more in
     rolled (one_more (to_turns w o.more o.above) (a (is_angled op))
-    (comes_from (is_angled op) 1 o.number k.least k.least k.most) (assign_row e i m))) d
+    (comes_last (is_angled op) o.number k.least k.most) (assign_row e i m))) d
 
 pub assign_expression : {op : ℕ} {ks os js : List Record} {t u : Forest} → power op ≡ 1 → BinarySo 3 ks t →
     Written op os js → ExpressionSo js u → (starts_with_block (ks ++ (os ++ js)) ≡ starts_with_block ks) →

@@ -16,6 +16,7 @@ use Rattle.rap_grammar_table.specs.Category.{Item, Block, FnParams, ParamPattern
 use Rattle.rap_grammar_table.specs.SharedRows.{attrs}
 use Rattle.rap_grammar_table.specs.Category as categories
 use Rattle.rap_grammar_table.specs.ItemRows as rows
+use Rattle.rap_grammar_table.specs.SharedRows as shared
 use Rattle.rap_grammar_table.specs.Notation.{Part, ◌⊳◌, t, c, node as under, opt, either, commas}
 use Rattle.rap_grammar_table.specs.Table.{Items, nil, choice}
 use Rattle.rap_grammar_table.specs.Tops.{Makes}
@@ -36,7 +37,7 @@ visibility : {r : Items} {y : Forest} {xs : List Forest} {v : Forest} {is js : L
 visibility {v = v} d r = groups (visibility_row d) (rw none-⧺ r)
 
 pub name_row : {r : Items} {x y t : Forest} {xs : List Forest} {ks js : List Record} → old.Derives old.Name ks t →
-    Row r (x ⧺ t) xs js y → Row (categories.name r) x xs (ks ++ js) y
+    Row r (x ⧺ t) xs js y → Row (shared.name r) x xs (ks ++ js) y
 name_row (name_given n) r = opens (puts_name n refl (closes r))
 
 -- the pattern of a parameter
@@ -150,7 +151,7 @@ tuple o w e = tuple_in o (opt_listed tuple_fields_stand w) e
 named : {k : ℕ} {r : Items} {a : Record} {y u v : Forest} {xs : List Forest} {is ks js : List Record} →
     old.Derives (old.Maybe old.Visibility) is v → Is a k → old.Derives old.Name ks u →
     Row r (leaf v k 1 ⧺ u) xs js y →
-    Row (attrs (rows.opt_visibility (t k (categories.name r)))) none xs (is ++ a ∷ (ks ++ js)) y
+    Row (attrs (rows.opt_visibility (t k (shared.name r)))) none xs (is ++ a ∷ (ks ++ js)) y
 named v o d r = none_comes (visibility v (puts_token o (name_row d r)))
 
 pub module_item : {a b : Record} {is ks : List Record} {v t : Forest} → old.Derives (old.Maybe old.Visibility) is v →

@@ -9,6 +9,7 @@ use Rattle.rap_small_grammar.specs.Derives.{Category, Is}
 use Rattle.rap_small_grammar.proofs.Begins.{Begins, First}
 use Rattle.rap_small_grammar.proofs.IncludedRows.{Row, Turns, done, other_way, ends_with, turns, puts_alone}
 use Rattle.rap_grammar_ends.proofs.Differ.{differ}
+use Rattle.rap_grammar_table.specs.Category as categories
 use Rattle.rap_grammar_table.specs.Table.{Items, nil, choice, piece, cat}
 use Rattle.rap_grammar_table.specs.Tops.{Makes}
 
@@ -28,7 +29,7 @@ pub data WithCommas (A : List Record → Forest → Type 0) : List Record → Fo
       WithCommas A (ks ++ a ∷ js) (leaf t COMMA 1 ⧺ u)
 
 -- any number of a category
-pub any_number : {c : ℕ} {ks : List Record} {t : Forest} → AnyNumber (Makes c) ks t → Turns (piece (cat c) nil) nil ks t
+pub any_number : {c : categories.Category} {ks : List Record} {t : Forest} → AnyNumber (Makes c) ks t → Turns (piece (cat c) nil) nil ks t
 any_number no_more = ends_with done
 any_number (and_more d m) = turns (puts_alone d done) (any_number m)
 

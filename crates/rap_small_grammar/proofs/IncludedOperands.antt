@@ -14,7 +14,7 @@ use Rattle.rap_small_grammar.proofs.IncludedRows.{Headed, nothing_behind, behind
 use Rattle.rap_small_grammar.proofs.IncludedTypes.{expression_path}
 use Rattle.rap_grammar_table.specs.Rows.{grammar}
 use Rattle.rap_grammar_table.proofs.Known.{by_or}
-use Rattle.rap_grammar_table.specs.Category.{ArgList, Atom, Expr, Operand, Prefixed, StmtOperand, StmtPrefixed, WithBlock}
+use Rattle.rap_grammar_table.specs.Category.{Category, ArgList, Atom, Expr, Operand, Prefixed, StmtOperand, StmtPrefixed, WithBlock}
 use Rattle.rap_grammar_table.specs.SharedRows.{literals}
 use Rattle.rap_grammar_table.specs.ExprRows.{postfixes, prefix_before, ref_before}
 use Rattle.rap_grammar_table.specs.Known.{among}
@@ -65,15 +65,15 @@ pub record Followed (t x : Forest) (ks : List Record) : Type 0 where
   pub usable : among (0 ∷ 1 ∷ []) number ≡ true
   pub called : ¬ IsNamedField t → number ≡ 1
 
-abbrev pub PostfixSo : ℕ → List Record → Forest → Type 0
+abbrev pub PostfixSo : Category → List Record → Forest → Type 0
 PostfixSo category ks t = Headed category (Followed t) ks
 
-pub alone : {category kind : ℕ} {ks : List Record} {children : Forest} → Makes category ks (node none kind children) →
+pub alone : {category : Category} {kind : ℕ} {ks : List Record} {children : Forest} → Makes category ks (node none kind children) →
     PostfixSo category ks (node none kind children)
 alone d = nothing_behind d (record { number = 1; turns = none_yet; usable = refl; called = λ n. refl })
 
 -- one more turn, which may come behind what there is
-goes_on : {category kind next : ℕ} {from : List ℕ} {a : Items} {ks js : List Record} {t u : Forest} →
+goes_on : {category : Category} {kind next : ℕ} {from : List ℕ} {a : Items} {ks js : List Record} {t u : Forest} →
     PostfixSo category ks t → HasWay (postfixes nil) from a next →
     ((x : Forest) (ms : List Record) (f : Followed t x ms) → among from f.number ≡ true) →
     among (0 ∷ 1 ∷ []) next ≡ true → (¬ IsNamedField (node none kind u) → next ≡ 1) →
@@ -82,35 +82,35 @@ goes_on {next = next} {js = js} p w i l n r =
     behind_it js
     (λ x ms f. record { number = next; turns = one_more f.turns w (i x ms f) r; usable = l; called = n }) p
 
-pub call_more : {h : ℕ} {ks js : List Record} {t u : Forest} → PostfixSo h ks t → ¬ IsNamedField t →
+pub call_more : {h : Category} {ks js : List Record} {t u : Forest} → PostfixSo h ks t → ¬ IsNamedField t →
     Makes ArgList js u → PostfixSo h (ks ++ js) (node none CALL_EXPR (t ⧺ u))
 call_more p n d = goes_on p first_turn (λ x ms f. rw (f.called n) refl) refl (λ m. refl) (puts_last d (closes done))
 
-pub index_more : {h : ℕ} {a b : Record} {ks js : List Record} {t u : Forest} → PostfixSo h ks t → Is a L_BRACK →
+pub index_more : {h : Category} {a b : Record} {ks js : List Record} {t u : Forest} → PostfixSo h ks t → Is a L_BRACK →
     Makes Expr js u → Is b R_BRACK →
     PostfixSo h (ks ++ a ∷ (js ++ b ∷ [])) (node none INDEX_EXPR (leaf (leaf t L_BRACK 1 ⧺ u) R_BRACK 1))
 index_more p o d e =
     goes_on p (other_turn first_turn) (λ x ms f. f.usable) refl (λ m. refl) (puts_token o (puts d (puts_token e (closes done))))
 
-pub try_more : {h : ℕ} {a : Record} {ks : List Record} {t : Forest} → PostfixSo h ks t → Is a QUESTION →
+pub try_more : {h : Category} {a : Record} {ks : List Record} {t : Forest} → PostfixSo h ks t → Is a QUESTION →
     PostfixSo h (ks ++ a ∷ []) (node none TRY_EXPR (leaf t QUESTION 1))
 try_more p o =
     goes_on p (other_turn (other_turn first_turn)) (λ x ms f. f.usable) refl (λ m. refl) (puts_token o (closes done))
 
-pub method_more : {h : ℕ} {a : Record} {ks js is : List Record} {t u v : Forest} → PostfixSo h ks t → Is a DOT →
+pub method_more : {h : Category} {a : Record} {ks js is : List Record} {t u v : Forest} → PostfixSo h ks t → Is a DOT →
     old.Derives old.Reference js u → Makes ArgList is v →
     PostfixSo h (ks ++ a ∷ (js ++ is)) (node none METHOD_CALL_EXPR (leaf t DOT 1 ⧺ u ⧺ v))
 method_more p o (reference n) d =
     goes_on p (other_turn (other_turn (other_turn first_turn))) (λ x ms f. f.usable) refl (λ m. refl)
     (puts_token o (opens (puts_name n refl (closes (no_group (puts_last d (closes done)))))))
 
-pub field_more : {h : ℕ} {a : Record} {ks js : List Record} {t u : Forest} → PostfixSo h ks t → Is a DOT →
+pub field_more : {h : Category} {a : Record} {ks js : List Record} {t u : Forest} → PostfixSo h ks t → Is a DOT →
     old.Derives old.Reference js u → PostfixSo h (ks ++ a ∷ js) (node none FIELD_EXPR (leaf t DOT 1 ⧺ u))
 field_more {t = x} p o (reference n) =
     goes_on p (other_turn (other_turn (other_turn (other_turn (other_turn first_turn))))) (λ x ms f. f.usable) refl
     (λ m. absurd (m (leaf x DOT 1, refl))) (puts_token o (opens (puts_name n refl (closes (closes done)))))
 
-pub number_more : {h : ℕ} {a b : Record} {ks : List Record} {t : Forest} → PostfixSo h ks t → Is a DOT →
+pub number_more : {h : Category} {a b : Record} {ks : List Record} {t : Forest} → PostfixSo h ks t → Is a DOT →
     Is b INT_NUMBER →
     PostfixSo h (ks ++ a ∷ b ∷ []) (node none FIELD_EXPR (node (leaf t DOT 1) NAME_REF (leaf none INT_NUMBER 1)))
 number_more p o n =
@@ -123,7 +123,7 @@ pub data PostfixOf (ks : List Record) (t : Forest) : Type 0 where
   by_block : ((l : List Record) → starts_with_block (ks ++ l) ≡ true) → PostfixSo WithBlock ks t → PostfixOf ks t
 
 pub more_of : {ks : List Record} {t : Forest} (js : List Record) (u : Forest) →
-    ((h : ℕ) → PostfixSo h ks t → PostfixSo h (ks ++ js) u) → PostfixOf ks t → PostfixOf (ks ++ js) u
+    ((h : Category) → PostfixSo h ks t → PostfixSo h (ks ++ js) u) → PostfixOf ks t → PostfixOf (ks ++ js) u
 more_of js u f (by_atom p q) = by_atom (f _ p) (f _ q)
 more_of js u f (by_block s p) = by_block (λ l. rw append_assoc (s (js ++ l))) (f _ p)
 
@@ -133,7 +133,7 @@ pub record UnarySo (ks : List Record) (t : Forest) : Type 0 where
   pub forbidden : Makes (Operand true) ks t
   pub stmt : starts_with_block ks ≡ false → Makes StmtOperand ks t
 
-postfix_row : {h : ℕ} {ks : List Record} {t : Forest} → PostfixSo h ks t →
+postfix_row : {h : Category} {ks : List Record} {t : Forest} → PostfixSo h ks t →
     Row ((c h ⊳ around 1 postfixes) nil) none [] ks t
 postfix_row p = whole (said_so (λ x ms f. rolled f.turns) p)
 
@@ -161,7 +161,7 @@ forbidden_prefixed d = makes 0 refl (puts_alone d done)
 stmt_prefixed : {ks : List Record} {t : Forest} → Makes StmtOperand ks t → Makes StmtPrefixed ks t
 stmt_prefixed d = makes 0 refl (puts_alone d done)
 
-ref_row : {h : ℕ} {a : Record} {ks : List Record} {t : Forest} → Is a AMP → Makes h ks t →
+ref_row : {h : Category} {a : Record} {ks : List Record} {t : Forest} → Is a AMP → Makes h ks t →
     Row (ref_before h nil) none [] (a ∷ ks) (node none REF_EXPR (leaf none AMP 1 ⧺ t))
 ref_row o d = opens (puts_token o (other_way (puts_last d (closes done))))
 
@@ -174,7 +174,7 @@ ref_operand {a = a} {ks = ks} o d =
       stmt = λ s. makes 5 refl (ref_row o (stmt_prefixed (d.stmt (sym (past_is a ks AMP o refl) ∙ s))));
     }
 
-ref_mut_row : {h : ℕ} {a b : Record} {ks : List Record} {t : Forest} → Is a AMP → Is b MUT_KW → Makes h ks t →
+ref_mut_row : {h : Category} {a b : Record} {ks : List Record} {t : Forest} → Is a AMP → Is b MUT_KW → Makes h ks t →
     Row (ref_before h nil) none [] (a ∷ b ∷ ks) (node none REF_EXPR (leaf (leaf none AMP 1) MUT_KW 1 ⧺ t))
 ref_mut_row o m d = opens (puts_token o (one_way (puts_token m (puts_last d (closes done)))))
 
@@ -190,7 +190,7 @@ ref_mut_operand {a = a} {b = b} {ks = ks} o m d =
           (d.stmt (sym (past_is a (b ∷ ks) AMP o refl ∙ past_is b ks MUT_KW m refl) ∙ s))));
     }
 
-prefix_row : {h : ℕ} {kinds : List ℕ} {a : Record} {ks : List Record} {t : Forest} → among kinds a.kind ≡ true →
+prefix_row : {h : Category} {kinds : List ℕ} {a : Record} {ks : List Record} {t : Forest} → among kinds a.kind ≡ true →
     Makes h ks t →
     Row (prefix_before kinds h nil) none [] (a ∷ ks) (node none PREFIX_EXPR (leaf none a.kind 1 ⧺ t))
 prefix_row m d = opens (puts (a_token m refl) (puts_last d (closes done)))

@@ -13,7 +13,7 @@ use Rattle.rap_small_grammar.specs.Derives.{Writes, tokens_of}
 use Rattle.rap_small_grammar.proofs.IncludedRows.{Row, one_way, other_way, guards, puts_token, puts_operator}
 use Rattle.rap_small_grammar.proofs.Operators.{one, by_truth, no_more, amp_apart, is_operand}
 use Rattle.rap_grammar_table.specs.Known.{anything}
-use Rattle.rap_grammar_table.specs.Operators.{operator}
+use Rattle.rap_small_grammar.proofs.IncludedTurns.{operator_of}
 use Rattle.rap_grammar_table.proofs.OperatorHints.{is_angled}
 use Rattle.rap_grammar_table.specs.Table.{Items, nil, piece, choice, unless, appended, tok, comp}
 use Rattle.std.proofs.lemmas.Bool.{eqb-true}
@@ -38,7 +38,7 @@ way_row (right w) i r = other_way (way_row w i r)
 
 -- it stands in the row of its power
 abbrev pub operator_items : ℕ → Items → Items
-operator_items op r = operator (is_angled op) (power op) r
+operator_items op r = operator_of (is_angled op) (power op) r
 
 pub record Stood (op : ℕ) : Type 0 where
   pub row : {r : Items} {x y : Forest} {xs : List Forest} {os js : List Record} → Written op os js →

@@ -9,6 +9,7 @@ use Rattle.rap_grammar_scripts.specs.Test.{Test, holds}
 use Rattle.rap_small_grammar.specs.Derives.{Is, IsName, Writes, tokens_of}
 use Rattle.rap_small_grammar.specs.Derives as old
 use Rattle.rap_grammar_ends.proofs.Ways.{none-⧺}
+use Rattle.rap_grammar_table.specs.Category.{Category}
 use Rattle.rap_grammar_table.specs.Rows.{grammar}
 use Rattle.rap_grammar_table.specs.Known.{Place, among}
 use Rattle.rap_grammar_table.specs.Notation.{name_words}
@@ -91,7 +92,7 @@ pub folds_up : {n j : ℕ} {ws is : Items} {c x y u : Forest} {xs : List Forest}
 folds_up {u = u} d r = folded d r
 
 -- a row of a category
-pub makes : {c : ℕ} {is : Items} {ks : List Record} {t : Forest} (n : ℕ) → row_at n (grammar c) ≡ Some is →
+pub makes : {c : Category} {is : Items} {ks : List Record} {t : Forest} (n : ℕ) → row_at n (grammar c) ≡ Some is →
     Row is none [] ks t → Makes c ks t
 makes n e r = by_row n e r
 
@@ -165,7 +166,7 @@ pub rolled : {ws : Items} {n m : ℕ} {x y : Forest} {ks : List Record} → Fold
 rolled f = rw append-nil at (unrolled f folded_none)
 
 -- An operand of this category first, and then what is said of its tree and of the tokens behind it.
-pub record Headed (category : ℕ) (more : Forest → List Record → Type 0) (ks : List Record) : Type 0 where
+pub record Headed (category : Category) (more : Forest → List Record → Type 0) (ks : List Record) : Type 0 where
   pub own : List Record
   pub behind : List Record
   pub is : own ++ behind ≡ ks
@@ -174,12 +175,12 @@ pub record Headed (category : ℕ) (more : Forest → List Record → Type 0) (k
   pub head : Makes category own (node none kind children)
   pub rest : more (node none kind children) behind
 
-pub nothing_behind : {category kind : ℕ} {more : Forest → List Record → Type 0} {ks : List Record} {children : Forest} →
+pub nothing_behind : {category : Category} {kind : ℕ} {more : Forest → List Record → Type 0} {ks : List Record} {children : Forest} →
     Makes category ks (node none kind children) → more (node none kind children) [] → Headed category more ks
 nothing_behind {kind = kind} {ks = ks} {children = children} d m =
     record { own = ks; behind = []; is = append-nil ks; kind = kind; children = children; head = d; rest = m }
 
-pub behind_it : {category : ℕ} {more next : Forest → List Record → Type 0} {ks : List Record} (js : List Record) →
+pub behind_it : {category : Category} {more next : Forest → List Record → Type 0} {ks : List Record} (js : List Record) →
     ((x : Forest) (ms : List Record) → more x ms → next x (ms ++ js)) → Headed category more ks →
     Headed category next (ks ++ js)
 behind_it js f h =
@@ -193,7 +194,7 @@ behind_it js f h =
       rest = f (node none h.kind h.children) h.behind h.rest;
     }
 
-pub said_so : {category : ℕ} {more next : Forest → List Record → Type 0} {ks : List Record} →
+pub said_so : {category : Category} {more next : Forest → List Record → Type 0} {ks : List Record} →
     ((x : Forest) (ms : List Record) → more x ms → next x ms) → Headed category more ks → Headed category next ks
 said_so f h =
     record {
@@ -210,6 +211,6 @@ said_so f h =
 abbrev pub FoldsTo : ℕ → Items → Forest → Forest → List Record → Type 0
 FoldsTo n ws t x ks = Folds n ws x ks t
 
-pub whole : {category n : ℕ} {ws : Items} {ks : List Record} {t : Forest} → Headed category (FoldsTo n ws t) ks →
+pub whole : {category : Category} {n : ℕ} {ws : Items} {ks : List Record} {t : Forest} → Headed category (FoldsTo n ws t) ks →
     Row (piece (cat category) (folds n ws nil)) none [] ks t
 whole h = rw (← h.is) (puts h.head (folds_alone h.rest))

@@ -79,7 +79,7 @@ block_statement d o = makes 2 refl (opens (puts_first d (puts_token o (closes do
 abbrev pub stmt_turn : Items
 stmt_turn = either (c Stmt) (c BlockStmt) nil
 
-abbrev pub last_stmt : ℕ → Items
+abbrev pub last_stmt : categories.Category → Items
 last_stmt tail = either (c Stmt) (c tail) nil
 
 pub data ContentsSo : List Record → Forest → Type 0 where
