@@ -32,22 +32,49 @@ class Kinds:
         return ' '.join(self.texts[it] for it in kinds)
 
 
-class Writer:
-    """Writes rows."""
+# What stands for the sign `!` until it is known whether what has it is written for both, with the sign and without.
+FLAG = '\0'
 
-    def __init__(self, table, kinds):
-        self.table, self.kinds = table, kinds
-        self.groups, self.used = {}, set()
+
+class Writer:
+    """Writes rows. What has a value of its own is written for all values at once, and these by a letter."""
+
+    def __init__(self, table, kinds, operators):
+        self.table, self.kinds, self.operators = table, kinds, operators
+        self.calls, self.used, self.own = set(), set(), (None, ())
 
     def name(self, number):
-        """A category's name: with its power, and with `!` where no record literal may stand in it."""
-        name, given = self.table.names[number]
-        return name + ''.join(('!' if it else '') if isinstance(it, bool) else str(it) for it in reversed(given))
+        """A category's name, with its level, and with the sign where no record literal may stand in it."""
+        return 'C' if self.table.categories[number] in self.own[1] else self.call(*self.table.names[number])
+
+    def call(self, name, given):
+        """A name with what it is given."""
+        found = ', '.join(self.given(it) for it in given if not isinstance(it, bool))
+        return name + (FLAG if True in given else '') + (f'({found})' if found else '')
+
+    def given(self, it):
+        """A level, a list of levels, or a category."""
+        levels = self.operators.levels
+        own = [value for value in self.own[1] if not isinstance(value, bool)]
+        if it in own:
+            return 'L' if it in levels else 'all L' if isinstance(it, tuple) else 'C'
+        if not isinstance(it, tuple):
+            return self.call(it.name, it.arguments)
+        if it == levels:
+            return 'every level'
+        if levels[levels.index(it[0]) - 1] in own:
+            return 'tighter than L'
+        return f'{it[0].name} and tighter'
 
     def row(self, row, is_own=False):
         """A row, in which a part with a name stands by it; not the row itself, where it is the part's own."""
         found, at = [], 0
         while at < len(row):
+            call = self.operators.rows.get(row[at:at + 1]) or self.operators.rows.get(row[at:at + 2])
+            if call and call[1][0] in self.own[1]:
+                found.append(self.call(*call))
+                at += 1 if row[at:at + 1] in self.operators.rows else 2
+                continue
             ends = [end for end in range(len(row), at, -1)
                     if row[at:end] in self.table.parts and not (is_own and row[at:end] == row)]
             if ends:
@@ -77,6 +104,10 @@ class Writer:
 
     def write_category(self, number):
         return self.name(number)
+
+    def write_rows(self, key):
+        """Any row of a list."""
+        return f'rows({key if isinstance(key, str) else self.name(key)})'
 
     def write_node(self, kind, row):
         return f'{self.kinds.names[kind]}[{self.row(row)}]'
@@ -108,12 +139,30 @@ class Writer:
 
     def write_around(self, row, number, turns):
         last = self.row(row)
-        if len(turns) == 1:
-            [(_, turn, kind, _)] = turns
-            return f'{last} {{{self.row(turn)} {self.kinds.names[kind]}}}*'
-        key = (number, tuple((numbers, turn, kind, then) for numbers, turn, kind, then in turns))
-        self.groups.setdefault(key[1], f'Turns{len(self.groups) + 1}')
-        return f'{last} {{{self.groups[key[1]]} from {number}}}*'
+        if len(turns) <= 1 and not self.operators.best(turns, self.own):
+            found = ''.join(f' {{{self.row(turn)} {self.kinds.names[kind]}}}*' for _, turn, kind, _ in turns)
+            return last + found
+        return f'{last} {{{" ".join(self.turns(turns))} from {self.number(number)}}}*'
+
+    def turns(self, turns):
+        """Turns by the definitions that make them."""
+        for name, given in self.operators.split(turns, self.own):
+            self.calls.add(name.removeprefix('each '))
+            yield self.call(name, given)
+
+    def turn(self, numbers, turn, kind, then):
+        """A turn, and its node."""
+        return f'{self.numbers(numbers)}: {self.row(turn)}, then {self.number(then)}', self.kinds.names[kind]
+
+    def number(self, it):
+        """A number of a turn, by its name in the table if it is one of an operator's."""
+        call = self.operators.numbers.get(it)
+        return self.call(*call) if call and (it > 1 or self.own[0] in self.operators.closing) else str(it)
+
+    def numbers(self, found):
+        """The numbers for which a turn is there."""
+        call = self.operators.sets.get(tuple(found))
+        return self.call(*call) if call else ', '.join(self.number(it) for it in found)
 
     def write_unless(self, test):
         return f'[not {self.test(test)}]'

@@ -20,11 +20,23 @@ class Made:
 
 @dataclass(frozen=True, eq=False)
 class Closure:
-    """A function that waits for arguments: a definition, or a lambda with what its names mean."""
+    """A function that waits for arguments: a definition, or a lambda with what its names mean. Two are the same where
+    these are."""
     definition: object
     term: object
     scope: object
     arguments: tuple = ()
+
+    def parts(self):
+        home = (self.definition.module, self.definition.name) if self.definition else ''
+        module, names = self.scope or ('', {})
+        return home, self.term, module, tuple(sorted(names.items(), key=lambda it: it[0])), self.arguments
+
+    def __eq__(self, other):
+        return isinstance(other, Closure) and self.parts() == other.parts()
+
+    def __hash__(self):
+        return hash(self.parts())
 
 
 class Modules(antt.Library):

@@ -1,10 +1,11 @@
 -- What the table derives at the front of an input is read as it was derived, up to its end.
-use Rattle.std.proofs.Common.{ap, ◌∙◌, List, [], ◌++◌, length, ℕ}
+use Rattle.std.proofs.Common.{ap, ◌∙◌, List, [], ◌++◌, length}
 use Rattle.rap_events.specs.Record.{Record}
 use Rattle.rap_events.specs.Forest.{Forest, message_count, used}
 use Rattle.rap_grammar_scripts.specs.declared.rule.Rule.{Rule}
 use Rattle.rap_grammar_scripts.specs.Script.{Script, Spot}
 use Rattle.rap_grammar_scripts.proofs.OneEnd.{one_end}
+use Rattle.rap_grammar_table.specs.Category.{Category}
 use Rattle.rap_grammar_table.specs.Tops.{Makes}
 use Rattle.rap_grammar_table.proofs.Again.{category_used}
 use Rattle.rap_grammar_table.proofs.Fronts.{MakesOf, arms_front, assoc_items_front, block_front, category_clean, extern_items_front, fields_front, items_front, token_tree_front, use_trees_front, values_front, variants_front}
@@ -13,7 +14,7 @@ use Rattle.rap_grammar.specs.declared.entry.part.Part.{Part}
 use Rattle.rap_grammar.specs.declared.entry.part.Part.TheVariants as part
 
 -- the output is what the script makes of a front
-pub front_of_table : {s : Script Rule} {c : ℕ} (ks l : List Record) {t output : Forest} →
+pub front_of_table : {s : Script Rule} {c : Category} (ks l : List Record) {t output : Forest} →
     IsPrefixOf s (ks ++ l) output → Makes c ks t → MakesOf s ks l t → IsWhole t (length ks) output
 front_of_table ks l i d m =
     let e = ap (λ (p : Spot). p.forest) (one_end i.run (m [])).spot in

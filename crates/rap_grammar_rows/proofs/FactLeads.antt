@@ -3,6 +3,7 @@ use Rattle.std.proofs.Common.{◌≡◌, ℕ, true, List, sym, subst}
 use Rattle.rap_events.specs.Record.{Record}
 use Rattle.rap_grammar_rows.proofs.Leads.{piece_leads, group_leads, repeat_leads, fold_leads}
 use Rattle.rap_grammar_rows.specs.Claims.{Holds, HoldsFrom, IsPiece, IsTurns, IsFold, From, Leads, Point, point, row_point, joined, ends_in_node}
+use Rattle.rap_grammar_rows.specs.Decode.{category_of}
 use Rattle.rap_grammar_rows.specs.Meaning.{at_place}
 use Rattle.rap_grammar_rows.specs.declared.fact.Fact.{Fact}
 use Rattle.rap_grammar_rows.specs.declared.fact.Goal.{Goal}
@@ -29,13 +30,13 @@ said tokens fact g a h e f =
     (subst (λ (k : Goal). HoldsFrom tokens k fact.start fact.end) e h)
 
 pub by_category : (tokens : List Record) (end p n number category : ℕ) (s t : Shape) (fs : List Frame) (at : ℕ)
-    (fact : Fact) → at_place p ≡ piece (cat number) (at_place n) → Holds tokens fact →
+    (fact : Fact) → at_place p ≡ piece (cat (category_of number)) (at_place n) → Holds tokens fact →
     fact.goal ≡ goal.Category category t → category ≡ number → fact.start ≡ at →
     Leads tokens end (point p s fs at) (point n (joined s t) fs fact.end)
 by_category tokens end p n number category s t fs at fact e h g i f =
-    let m : IsPiece tokens (cat category) at fact.end t = said tokens fact (goal.Category category t) at h g f in
-    piece_leads tokens end p n (cat number) s t fs at fact.end e
-    (subst (λ (k : ℕ). IsPiece tokens (cat k) at fact.end t) i m)
+    let m : IsPiece tokens (cat (category_of category)) at fact.end t = said tokens fact (goal.Category category t) at h g f in
+    piece_leads tokens end p n (cat (category_of number)) s t fs at fact.end e
+    (subst (λ (k : ℕ). IsPiece tokens (cat (category_of k)) at fact.end t) i m)
 
 pub by_row : (tokens : List Record) (end p n part place : ℕ) (s t : Shape) (fs : List Frame) (at : ℕ) (fact : Fact) →
     at_place p ≡ group (at_place part) (at_place n) → Holds tokens fact → fact.goal ≡ goal.Row place t →

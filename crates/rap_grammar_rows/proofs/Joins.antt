@@ -1,5 +1,5 @@
 -- Facts from facts.
-use Rattle.std.proofs.Common.{◌≡◌, ℕ, zero, suc, ◌<◌, ◌≤◌, true, List, [], ◌∷◌, ◌++◌, drop, length, get_or, Some, refl, sym, ap, ◌∙◌, subst, arith}
+use Rattle.std.proofs.Common.{◌≡◌, ℕ, zero, suc, ◌<◌, ◌≤◌, true, List, [], ◌∷◌, ◌++◌, drop, length, get_or, Some, refl, sym, ap, ◌∙◌, subst, arith, map}
 use Rattle.std.proofs.lemmas.List.{append-nil}
 use Rattle.rap_events.specs.Forest.{Forest, none, node, ◌⧺◌}
 use Rattle.rap_events.specs.Record.{Record}
@@ -7,7 +7,7 @@ use Rattle.rap_grammar_rows.proofs.Content.{content, file_content}
 use Rattle.rap_grammar_rows.proofs.Leads.{behind}
 use Rattle.rap_grammar_rows.specs.Claims.{Segment, Rest, From, Point, StepIs, IsPiece, IsTurns, IsFold, Folded, row_point, turn_point}
 use Rattle.rap_grammar_rows.specs.Code.{row_places, sets, turns}
-use Rattle.rap_grammar_rows.specs.Decode.{item_at, set_in, turn_in}
+use Rattle.rap_grammar_rows.specs.Decode.{category_of, item_at, or_first, set_in, turn_in}
 use Rattle.rap_grammar_rows.specs.Meaning.{at_place, meaning}
 use Rattle.rap_grammar_rows.specs.Rows.{all_parts, items_in, rows_in}
 use Rattle.rap_grammar_rows.specs.declared.part.Part.{Part}
@@ -16,20 +16,35 @@ use Rattle.rap_grammar_rows.specs.declared.shape.Outcome.{Outcome}
 use Rattle.rap_grammar_rows.specs.declared.shape.Outcome.TheVariants as outcome
 use Rattle.rap_grammar_rows.specs.declared.shape.Shape.{Shape}
 use Rattle.rap_grammar_rows.specs.declared.shape.Shape.TheVariants.{OneNode}
-use Rattle.rap_grammar_table.specs.Rows.{grammar, rows_at}
+use Rattle.rap_grammar_table.specs.Category.{Category}
+use Rattle.rap_grammar_table.specs.Numbers.{categories, category_at}
+use Rattle.rap_grammar_table.specs.Rows.{grammar}
 use Rattle.rap_grammar_table.specs.Known.{among}
 use Rattle.rap_grammar_table.specs.Table.{Items, HasWay, first_turn, other_turn, Derives, rest_of, cat, row_at, by_row, last_turn, one_turn, folded_none, folded_more}
 use Rattle.rap_grammar_table.specs.Tops.{MakesRow, file_row}
 
 -- rows by their numbers
+rows_at : ℕ → List (List Items) → List Items
+rows_at n [] = []
+rows_at zero (r ∷ rs) = r
+rows_at (suc n) (r ∷ rs) = rows_at n rs
+
 places_rows : (n : ℕ) (is : List Items) (pss : List (List ℕ)) →
     rows_at n (rows_in is pss) ≡ items_in is (set_in n pss)
+unfolding rows_at
 places_rows n is [] = refl
 places_rows zero is (ps ∷ pss) = refl
 places_rows (suc n) is (ps ∷ pss) = places_rows n is pss
 
-rows_is : (c : ℕ) → grammar c ≡ items_in all_parts (set_in c row_places)
+rows_is : (c : ℕ) → rows_at c (map grammar categories) ≡ items_in all_parts (set_in c row_places)
 rows_is c = ap (rows_at c) (sym content) ∙ places_rows c all_parts row_places
+
+of_number : (cs : List Category) (c n : ℕ) (r : Items) → row_at n (rows_at c (map grammar cs)) ≡ Some r →
+    row_at n (grammar (or_first (category_at c cs))) ≡ Some r
+unfolding rows_at
+of_number [] c n r e = absurd cc
+of_number (d ∷ cs) zero n r e = e
+of_number (d ∷ cs) (suc c) n r e = of_number cs c n r e
 
 row_in : (n : ℕ) (is : List Items) (ps : List ℕ) → n < length ps →
     row_at n (items_in is ps) ≡ Some (item_at (get_or ps n 0) is)
@@ -38,14 +53,15 @@ row_in zero is (p ∷ ps) h = refl
 row_in (suc n) is (p ∷ ps) h = row_in n is ps (omega arith)
 
 pub row_there : (c n place : ℕ) (ps : List ℕ) → ps ≡ set_in c row_places → n < length ps → place ≡ get_or ps n 0 →
-    row_at n (grammar c) ≡ Some (at_place place)
+    row_at n (grammar (category_of c)) ≡ Some (at_place place)
 row_there c n place ps e h i =
-    ap (row_at n) (rows_is c ∙ ap (items_in all_parts) (sym e)) ∙
-    (row_in n all_parts ps h ∙ ap (λ (k : ℕ). Some (at_place k)) (sym i))
+    of_number categories c n (at_place place)
+    (ap (row_at n) (rows_is c ∙ ap (items_in all_parts) (sym e)) ∙
+    (row_in n all_parts ps h ∙ ap (λ (k : ℕ). Some (at_place k)) (sym i)))
 
 -- a category by a row
-pub category_fact : (tokens : List Record) (c n p a b : ℕ) (o : Shape) → row_at n (grammar c) ≡ Some (at_place p) →
-    From tokens b o (row_point p a) → IsPiece tokens (cat c) a b o
+pub category_fact : (tokens : List Record) (c n p a b : ℕ) (o : Shape) → row_at n (grammar (category_of c)) ≡ Some (at_place p) →
+    From tokens b o (row_point p a) → IsPiece tokens (cat (category_of c)) a b o
 category_fact tokens c n p a b o e f =
     let m : Rest (at_place p) none [] f.part o = f.good none [] refl tt in
     record { part = f.part; is_part = f.is_part; tree = m.tree; derives = by_row n e m.derives; fits = m.fits }

@@ -1,7 +1,7 @@
 -- The part at a place, by its numbers.
 use Rattle.std.proofs.Common.{◌≡◌, ℕ, zero, suc, ◌+◌, ◌<◌, List, [], ◌∷◌, drop, length, get_or, refl, sym, ap, ◌∙◌, subst, arith}
 use Rattle.rap_grammar_rows.specs.Code.{forms, firsts, seconds, nexts, sets, turns}
-use Rattle.rap_grammar_rows.specs.Decode.{AreAt, form_of, item_at, build, parts_of, set_in, words_in, turn_in}
+use Rattle.rap_grammar_rows.specs.Decode.{AreAt, category_of, form_of, item_at, build, parts_of, set_in, words_in, turn_in}
 use Rattle.rap_grammar_rows.specs.Guards.{guards, guard_at}
 use Rattle.rap_grammar_rows.specs.Meaning.{at_place}
 use Rattle.rap_grammar_rows.specs.Rows.{all_parts}
@@ -25,19 +25,19 @@ built_at zero (f ∷ fs) (x ∷ xs) (y ∷ ys) (n ∷ ns) a b c d = refl
 built_at (suc p) (f ∷ fs) (x ∷ xs) (y ∷ ys) (n ∷ ns) a b c d =
     built_at p fs xs ys ns (omega arith) (omega arith) (omega arith) (omega arith)
 
-forms_length : length forms ≡ 2717
+forms_length : length forms ≡ 2617
 unfolding forms
 forms_length = refl
 
-firsts_length : length firsts ≡ 2717
+firsts_length : length firsts ≡ 2617
 unfolding firsts
 firsts_length = refl
 
-seconds_length : length seconds ≡ 2717
+seconds_length : length seconds ≡ 2617
 unfolding seconds
 seconds_length = refl
 
-nexts_length : length nexts ≡ 2717
+nexts_length : length nexts ≡ 2617
 unfolding nexts
 nexts_length = refl
 
@@ -76,8 +76,8 @@ pub operator_is : (p f x y n m : ℕ) → AreAt p f x y n → f ≡ 5 → m ≡ 
 operator_is p f x y n m h e i = of_form p f x y n 5 h e ∙ ap (λ (w : Items). piece (comp x) w) (behind_is p n m i)
 
 pub category_is : (p f x y n m : ℕ) → AreAt p f x y n → f ≡ 6 → m ≡ p + 1 + n →
-    at_place p ≡ piece (cat x) (at_place m)
-category_is p f x y n m h e i = of_form p f x y n 6 h e ∙ ap (λ (w : Items). piece (cat x) w) (behind_is p n m i)
+    at_place p ≡ piece (cat (category_of x)) (at_place m)
+category_is p f x y n m h e i = of_form p f x y n 6 h e ∙ ap (λ (w : Items). piece (cat (category_of x)) w) (behind_is p n m i)
 
 pub choice_is : (p f x y n a b m : ℕ) → AreAt p f x y n → f ≡ 7 → a ≡ p + 1 + x → b ≡ p + 1 + y → m ≡ p + 1 + n →
     at_place p ≡ choice (at_place a) (at_place b) (at_place m)

@@ -2,6 +2,7 @@
 use Rattle.std.specs.Prelude.{◌≡◌, ℕ, Bool, true, false, List, [], ◌∷◌, ◌++◌, drop, reverse, Option, Some, None}
 use Rattle.rap_events.specs.Forest.{Forest, none, node}
 use Rattle.rap_events.specs.Record.{Record}
+use Rattle.rap_grammar_rows.specs.Decode.{category_of}
 use Rattle.rap_grammar_rows.specs.Guards.{guards, guard_at}
 use Rattle.rap_grammar_rows.specs.Meaning.{at_place}
 use Rattle.rap_grammar_rows.specs.declared.fact.Fact.{Fact}
@@ -158,7 +159,7 @@ turn_point place start = record { items = at_place place; shape = OneNode; aroun
 abbrev pub HoldsFrom : List Record → Goal → ℕ → ℕ → Type 0
 HoldsFrom tokens (goal.Row place o) start end = From tokens end o (row_point place start)
 HoldsFrom tokens (goal.Turn place) start end = From tokens end OneNode (turn_point place start)
-HoldsFrom tokens (goal.Category c o) start end = IsPiece tokens (cat c) start end o
+HoldsFrom tokens (goal.Category c o) start end = IsPiece tokens (cat (category_of c)) start end o
 HoldsFrom tokens (goal.Turns turn last) start end = IsTurns tokens turn last start end
 HoldsFrom tokens (goal.Fold place n) start end = IsFold tokens place n start end
 

@@ -3,6 +3,8 @@
 use Rattle.std.specs.Prelude.{◌≡◌, ℕ, zero, suc, ◌<◌, get_or, List, [], ◌∷◌, Option, Some, None}
 use Rattle.rap_grammar_rows.specs.Code.{forms, firsts, seconds, nexts, sets, turns}
 use Rattle.rap_grammar_rows.specs.Guards.{guards, guard_at}
+use Rattle.rap_grammar_table.specs.Category.{Category, Ty}
+use Rattle.rap_grammar_table.specs.Numbers.{categories, category_at}
 use Rattle.rap_grammar_table.specs.Table.{tok, word, comp, cat, Items, nil, begin, close, piece, choice, repeat, group, folds, way, unless}
 
 pub data Form : Type 0 where
@@ -52,6 +54,14 @@ turn_in n [] = (0, 0)
 turn_in zero (t ∷ ts) = t
 turn_in (suc n) (t ∷ ts) = turn_in n ts
 
+-- the category of a number; what is no number of one stands for the first
+abbrev pub or_first : Option Category → Category
+or_first None = Ty
+or_first (Some c) = c
+
+abbrev pub category_of : ℕ → Category
+category_of n = or_first (category_at n categories)
+
 -- a part of this form before these parts
 abbrev pub build : Form → ℕ → ℕ → ℕ → List Items → Items
 build an_end x y n is = nil
@@ -60,7 +70,7 @@ build a_close x y n is = close x (item_at n is)
 build a_token x y n is = piece (tok (set_in x sets) (words_in y sets)) (item_at n is)
 build a_word x y n is = piece (word x) (item_at n is)
 build an_operator x y n is = piece (comp x) (item_at n is)
-build a_category x y n is = piece (cat x) (item_at n is)
+build a_category x y n is = piece (cat (category_of x)) (item_at n is)
 build two_ways x y n is = choice (item_at x is) (item_at y is) (item_at n is)
 build repeated x y n is = repeat (item_at x is) (item_at y is) (item_at n is)
 build grouped x y n is = group (item_at x is) (item_at n is)
@@ -82,7 +92,7 @@ parts_of (f ∷ fs) (x ∷ xs) (y ∷ ys) (n ∷ ns) = put_before (form_of f) x 
 
 -- the numbers of the part at a place
 pub record AreAt (place form first second next : ℕ) : Type 0 where
-  pub inside : place < 2717
+  pub inside : place < 2617
   pub form_is : form ≡ get_or forms place 0
   pub first_is : first ≡ get_or firsts place 0
   pub second_is : second ≡ get_or seconds place 0

@@ -1,7 +1,7 @@
 -- What a part of a row means.
 use Rattle.std.specs.Prelude.{ℕ}
 use Rattle.rap_grammar_rows.specs.Code.{sets, turns}
-use Rattle.rap_grammar_rows.specs.Decode.{item_at, set_in, words_in, turn_in}
+use Rattle.rap_grammar_rows.specs.Decode.{category_of, item_at, set_in, words_in, turn_in}
 use Rattle.rap_grammar_rows.specs.Guards.{guards, guard_at}
 use Rattle.rap_grammar_rows.specs.Rows.{all_parts}
 use Rattle.rap_grammar_rows.specs.declared.part.Part.{Part}
@@ -19,7 +19,7 @@ meaning (part.Close k n) = close k (at_place n)
 meaning (part.Token s w n) = piece (tok (set_in s sets) (words_in w sets)) (at_place n)
 meaning (part.Word k n) = piece (word k) (at_place n)
 meaning (part.Operator k n) = piece (comp k) (at_place n)
-meaning (part.Category c n) = piece (cat c) (at_place n)
+meaning (part.Category c n) = piece (cat (category_of c)) (at_place n)
 meaning (part.Choice a b n) = choice (at_place a) (at_place b) (at_place n)
 meaning (part.Repeat a z n) = repeat (at_place a) (at_place z) (at_place n)
 meaning (part.Group a n) = group (at_place a) (at_place n)

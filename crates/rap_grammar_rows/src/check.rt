@@ -3,10 +3,9 @@ ghost use Rattle.std.specs.Prelude.{◌≡◌, ℕ, List, length, All, IfOk, IfS
 ghost use Rattle.rap_events.specs.Forest.{Forest};
 ghost use Rattle.rap_grammar_rows.specs.Claims.{From, Holds, point};
 ghost use Rattle.rap_grammar_rows.specs.Code.{row_places, sets, turns};
-ghost use Rattle.rap_grammar_rows.specs.Decode.{set_in, turn_in};
+ghost use Rattle.rap_grammar_rows.specs.Decode.{category_of, set_in, turn_in};
 ghost use Rattle.rap_grammar_rows.specs.Meaning.{at_place};
 ghost use Rattle.rap_grammar_table.specs.Rows.{grammar};
-ghost use Rattle.rap_grammar_table.proofs.Table.{table};
 ghost use Rattle.rap_grammar_table.specs.Table.{HasWay, Items, row_at};
 ghost use Rattle.rap_grammar_table.specs.Tops.{MakesRow, file_row};
 
@@ -60,7 +59,7 @@ fn row_starts(number: usize) -> &'static [u16]
 
 /// Where a row of a category begins, by their numbers.
 pub fn row_place(category: u16, row: usize) -> Option<usize>
-    ensures { IfSome result (λ place. row_at row (grammar category) ≡ Some (at_place place)) }
+    ensures { IfSome result (λ place. row_at row (grammar (category_of category)) ≡ Some (at_place place)) }
 {
     let places = row_starts(usize::from(category));
     if row >= places.len() {
@@ -107,7 +106,7 @@ fn turn_at(first: usize, skips: usize) -> Option<Turn>
 pub fn turn_numbers(number: usize) -> Option<(usize, u16)>
     ensures { IfSome result (λ r. (r.0 ≡ (turn_in number turns).0) × (r.1 ≡ (turn_in number turns).1)) }
 {
-    if number >= 32 {
+    if number >= 30 {
         return None;
     }
     let (set, next) = turns()[number];

@@ -3,7 +3,7 @@ ghost use Rattle.std.specs.Prelude.{◌≡◌, ℕ, List, ◌∷◌, [], reverse
 ghost use Rattle.rap_events.specs.Record.{Record};
 ghost use Rattle.rap_grammar_rows.specs.Claims.{Leads, From, StepIs, Holds, IsTurns, IsFold, IsPiece, point, row_point};
 ghost use Rattle.rap_grammar_rows.specs.Code.{sets};
-ghost use Rattle.rap_grammar_rows.specs.Decode.{set_in, words_in};
+ghost use Rattle.rap_grammar_rows.specs.Decode.{category_of, set_in, words_in};
 ghost use Rattle.rap_grammar_rows.specs.Guards.{guards, guard_at};
 ghost use Rattle.rap_grammar_rows.specs.Meaning.{at_place, meaning};
 ghost use Rattle.rap_grammar_rows.specs.declared.shape.Shape.TheVariants.{Any, Empty};
@@ -226,7 +226,7 @@ impl Walk {
         number: u16,
         next: usize,
     ) -> Outcome
-        requires here { at_place self.old.place ≡ piece (cat number) (at_place next) }
+        requires here { at_place self.old.place ≡ piece (cat (category_of number)) (at_place next) }
         requires holds { Holds input.now fact }
         ensures { StepIs input.now end (point self.old.place self.old.shape self.old.frames.items self.old.at) (point self.new.place self.new.shape self.new.frames.items self.new.at) result }
     {
