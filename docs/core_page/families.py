@@ -1,4 +1,5 @@
-"""What is written once for many: the rows of a name that is given truth values, levels, lists of levels or categories."""
+"""What is written once for many: the rows of a name that is given truth values, levels, lists of levels or
+categories."""
 from core_page.text import FLAG
 
 
@@ -7,9 +8,9 @@ def with_sign(rows, sign):
 
 
 def heads(name, members, is_same=lambda first, other: False):
-    """The heads that stand for all members of a name, each with its rows. `members` says of what is given what a member's
-    rows are, with letters or without them. Members are one where their rows are the same, or where `is_same` says so of
-    two of them."""
+    """The heads that stand for all members of a name, each with its rows. `members` says of what is given what a
+    member's rows are, with letters or without them. Members are one where their rows are the same, or where `is_same`
+    says so of two of them."""
     found = []
     for sign, given, rows in by_sign(members):
         group = next((it for it in found if it[0] == sign and (it[2] == rows or is_same(it[1][0], given))), None)

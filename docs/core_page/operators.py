@@ -66,8 +66,9 @@ class Operators:
             self.members[name] = found
 
     def split(self, found, own=(None, ())):
-        """Turns as calls of definitions, the longest first, and single turns that no definition has. The definition whose
-        own turns they are is no call of itself; of several that make the same that counts which is given the same."""
+        """Turns as calls of definitions, the longest first, and single turns that no definition has. The definition
+        whose own turns they are is no call of itself; of several that make the same that counts which is given the
+        same."""
         parts, at = [], 0
         while at < len(found):
             ends = range(min(len(found), at + self.longest), at, -1)

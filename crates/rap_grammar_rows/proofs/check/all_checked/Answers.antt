@@ -1,4 +1,4 @@
-use Rattle.std.proofs.Common.{rules}
+use Rattle.std.proofs.Common.{◌≡◌, ◌∷◌, ◌++◌, [], rules}
 use Rattle.std.proofs.lemmas.List.Elements.{All-push}
 use Rattle.rap_grammar_rows.specs.Claims.{Holds}
 use Rattle.rap_grammar_rows.proofs.check.all_checked.Goals as goal
@@ -7,4 +7,5 @@ use Rattle.rap_grammar_rows.proofs.check.all_checked.Goals as goal
 pub claims-preserved : goal.claims-preserved
 claims-preserved c =
     let holds : Holds c.args.input.now c.in-Some.fact = search rules in
-    rw c.push.ensures.items (All-push (Holds c.args.input.now) c.claims.facts.items c.in-Some.fact c.claims.invariant holds)
+    let more : c.push.new.self.items ≡ c.claims.facts.items ++ c.in-Some.fact ∷ [] = search rules in
+    rw more (All-push (Holds c.args.input.now) c.claims.facts.items c.in-Some.fact c.claims.invariant holds)
