@@ -33,21 +33,21 @@ sets_are : spans_of members member_starts ≡ sets
 unfolding members member_starts sets
 sets_are = refl
 
-starts_length : length member_starts ≡ 105
+starts_length : length member_starts ≡ 107
 unfolding member_starts
 starts_length = refl
 
-sets_length : length sets ≡ 104
+sets_length : length sets ≡ 106
 unfolding sets
 sets_length = refl
 
-pub set_is : (ms ss r : List ℕ) (n a b : ℕ) → n < 104 → ms ≡ members → ss ≡ member_starts →
+pub set_is : (ms ss r : List ℕ) (n a b : ℕ) → n < 106 → ms ≡ members → ss ≡ member_starts →
     a ≡ get_or ss n 0 → b ≡ get_or ss (n + 1) 0 → r ≡ slice_range ms a b → r ≡ set_in n sets
 set_is ms ss r n a b h m s f t e =
     let next : n + 1 ≡ suc n = omega arith in
     rw (e, f, t, m, s, next) (span_of members member_starts n (omega (arith, starts_length)) ∙ ap (set_in n) sets_are)
 
-pub set_past : (n : ℕ) → 104 ≤ n → set_in n sets ≡ []
+pub set_past : (n : ℕ) → 106 ≤ n → set_in n sets ≡ []
 set_past n h = past sets n (omega (arith, sets_length))
 
 -- the places of a category's rows

@@ -29,7 +29,7 @@ pub fn between(numbers: &'static [u16], start: usize, end: usize) -> &'static [u
 fn set(number: usize) -> &'static [u16]
     ensures { result.now ≡ set_in number sets }
 {
-    if number >= 104 {
+    if number >= 106 {
         return &[];
     }
     let starts = member_starts();

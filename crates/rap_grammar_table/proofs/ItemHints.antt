@@ -1,6 +1,6 @@
 -- What the checker is told of items.
 use Rattle.std.specs.Prelude.{ℕ, List, [], ◌∷◌, ◌++◌, Some}
-use Rattle.rap_base.specs.TokenKind.{AUTO_KW, DEFAULT_KW, EOF, IDENT, SEMICOLON, COMMA, L_PAREN, L_CURLY, R_CURLY, ASYNC_KW, CONST_KW, ENUM_KW, EXTERN_KW, FN_KW, MOD_KW, PUB_KW, STATIC_KW, STRUCT_KW, TYPE_KW, UNSAFE_KW, STAR, BANG, UNION_KW, USE_KW, TRAIT_KW, IMPL_KW, MACRO_RULES_KW}
+use Rattle.rap_base.specs.TokenKind.{AUTO_KW, DEFAULT_KW, EOF, IDENT, SEMICOLON, COMMA, L_PAREN, L_CURLY, R_CURLY, ASYNC_KW, CONST_KW, ENUM_KW, EXTERN_KW, FN_KW, MOD_KW, PUB_KW, STATIC_KW, STRUCT_KW, TYPE_KW, UNSAFE_KW, STAR, BANG, UNION_KW, USE_KW, TRAIT_KW, IMPL_KW, MACRO_KW, MACRO_RULES_KW}
 use Rattle.rap_grammar_scripts.specs.Script.{Outcome, something}
 use Rattle.rap_grammar_scripts.specs.declared.rule.Rule.{Rule}
 use Rattle.rap_grammar_scripts.specs.declared.rule.Rule.TheVariants as knot
@@ -17,7 +17,7 @@ use Rattle.rap_grammar_table.specs.Notation.{Part, of_kinds}
 abbrev pub item_keywords : List ℕ
 item_keywords =
     STRUCT_KW ∷ MOD_KW ∷ TYPE_KW ∷ CONST_KW ∷ STATIC_KW ∷ ENUM_KW ∷ ASYNC_KW ∷ UNSAFE_KW ∷ EXTERN_KW ∷ FN_KW ∷
-    USE_KW ∷ TRAIT_KW ∷ IMPL_KW ∷ []
+    USE_KW ∷ TRAIT_KW ∷ IMPL_KW ∷ MACRO_KW ∷ []
 
 abbrev pub visibility_entry : Entry
 visibility_entry =

@@ -1,5 +1,5 @@
 -- What the checker is told of patterns.
-use Rattle.std.specs.Prelude.{true, false, List, [], ◌∷◌, ◌++◌}
+use Rattle.std.specs.Prelude.{ℕ, true, false, List, [], ◌∷◌, ◌++◌}
 use Rattle.rap_base.specs.TokenKind.{IDENT, COMMA, DOT, L_PAREN, R_PAREN, L_BRACK, R_BRACK, L_CURLY, L_ANGLE, AMP, AT, MINUS, PIPE, UNDERSCORE, INT_NUMBER, FLOAT_NUMBER, CONST_KW, MUT_KW, REF_KW}
 use Rattle.rap_grammar_scripts.specs.Script.{Outcome, something}
 use Rattle.rap_grammar_scripts.specs.declared.rule.Rule.{Rule}
@@ -12,7 +12,7 @@ use Rattle.rap_grammar_table.specs.Category.{Pattern}
 use Rattle.rap_grammar_table.specs.SharedRows.{literals, path_names}
 use Rattle.rap_grammar_table.specs.Known.{Place}
 use Rattle.rap_grammar_table.specs.Notation.{rows_of, of_kinds}
-use Rattle.rap_grammar_table.specs.PatternRows.{type_colon, pattern_ends, pattern_follows, single_follows, single_rows, rest_rows, or_rows, param_pattern_rows}
+use Rattle.rap_grammar_table.specs.PatternRows.{type_colon, pattern_ends, pattern_follows, single_follows, single_rows, rest_rows, or_rows, param_names, param_pattern_rows}
 use Rattle.rap_grammar_table.specs.TypeRows.{expr_path_rows}
 
 -- what a pattern begins with
@@ -43,15 +43,20 @@ path_entry =
     behind (of_names path_names) (name_nexts ++ colons ((of_kinds (L_ANGLE ∷ path_names) ∷ []) ∷ []))))
     ((of_kinds (L_PAREN ∷ L_CURLY ∷ PIPE ∷ pattern_ends) ∷ []) ∷ type_colon ∷ [])
 
+abbrev pub single_read_by : Rule → List Outcome
+single_read_by knot.PatternSingle = something ∷ []
+single_read_by r = []
+
+abbrev pub either_read_by : Rule → List Outcome
+either_read_by knot.Pattern = something ∷ []
+either_read_by knot.PatternSingle = something ∷ []
+either_read_by r = []
+
 abbrev pub rest_entry : Entry
 rest_entry =
     read_text plain_read_by rest_rows
     ((touching DOT ∷ of_kinds (DOT ∷ []) ∷ of_kinds (COMMA ∷ R_PAREN ∷ R_BRACK ∷ []) ∷ []) ∷ [])
     ((of_kinds (COMMA ∷ R_PAREN ∷ R_BRACK ∷ []) ∷ []) ∷ [])
-
-abbrev pub single_read_by : Rule → List Outcome
-single_read_by knot.PatternSingle = something ∷ []
-single_read_by r = []
 
 abbrev pub single_entry : Entry
 single_entry =
@@ -70,12 +75,18 @@ pattern_entry =
       read_by = pattern_read_by;
     }
 
+-- what the pattern of a parameter begins with behind a `&`, but for a name and `mut`
+abbrev behind_ref : List ℕ
+behind_ref = REF_KW ∷ UNDERSCORE ∷ L_PAREN ∷ L_BRACK ∷ AMP ∷ []
+
 abbrev pub param_pattern_entry : Entry
 param_pattern_entry =
-    read_text plain_read_by
+    read_text either_read_by
     param_pattern_rows
-    ((of_kinds (REF_KW ∷ UNDERSCORE ∷ L_PAREN ∷ []) ∷ [])
+    ((of_kinds (REF_KW ∷ UNDERSCORE ∷ L_PAREN ∷ L_BRACK ∷ []) ∷ [])
     ∷ (of_kinds (MUT_KW ∷ []) ∷ of_kinds (IDENT ∷ []) ∷ [])
-    ∷ (of_names (IDENT ∷ []) ∷ type_colon)
-    ∷ [])
+    ∷ (of_kinds (AMP ∷ []) ∷ of_kinds (param_names ++ behind_ref) ∷ [])
+    ∷ (of_kinds (AMP ∷ []) ∷ of_kinds (MUT_KW ∷ []) ∷ of_kinds (MUT_KW ∷ (param_names ++ behind_ref)) ∷ [])
+    ∷ behind (of_names param_names)
+    ((of_kinds (AT ∷ L_PAREN ∷ L_CURLY ∷ []) ∷ []) ∷ type_colon ∷ colons ((of_kinds (L_ANGLE ∷ path_names) ∷ []) ∷ [])))
     (type_colon ∷ [])

@@ -55,9 +55,15 @@ param_patterns_read : all_accepted (is_read table param_pattern_entry knot.Patte
 unfolding scripts
 param_patterns_read = refl
 
+param_patterns_read_alone :
+    all_accepted (is_read table param_pattern_entry knot.PatternSingle) param_pattern_entry.rows ≡ accepted
+unfolding scripts
+param_patterns_read_alone = refl
+
 param_patterns_read_by : (r : Rule) → some_outcome (param_pattern_entry.read_by r) ≡ true →
     all_accepted (is_read table param_pattern_entry r) param_pattern_entry.rows ≡ accepted
 param_patterns_read_by knot.Pattern h = param_patterns_read
+param_patterns_read_by knot.PatternSingle h = param_patterns_read_alone
 param_patterns_read_by r h = absurd cc
 
 pub param_patterns : EntryChecked table param_pattern_entry

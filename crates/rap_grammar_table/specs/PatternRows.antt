@@ -1,14 +1,15 @@
 -- The rows of patterns.
 use Rattle.std.specs.Prelude.{ℕ, List, [], ◌∷◌, ◌++◌}
-use Rattle.rap_base.specs.NodeKind.{CONST_BLOCK_PAT, IDENT_PAT, LITERAL, LITERAL_PAT, NAME_REF, OR_PAT, PAREN_PAT, PATH_PAT, RANGE_PAT, RECORD_PAT, RECORD_PAT_FIELD, RECORD_PAT_FIELD_LIST, REF_PAT, REST_PAT, SLICE_PAT, TUPLE_PAT, TUPLE_STRUCT_PAT, WILDCARD_PAT}
-use Rattle.rap_base.specs.TokenKind.{EOF, IDENT, SEMICOLON, COMMA, COLON, DOT, DOT2, DOT2EQ, EQ, L_PAREN, R_PAREN, L_BRACK, R_BRACK, L_CURLY, R_CURLY, AMP, AT, MINUS, PIPE, UNDERSCORE, LIFETIME_IDENT, INT_NUMBER, FLOAT_NUMBER, CONST_KW, IF_KW, IN_KW, MUT_KW, REF_KW, BANG, COLON2}
+use Rattle.rap_base.specs.NodeKind.{CONST_BLOCK_PAT, IDENT_PAT, LITERAL, LITERAL_PAT, NAME_REF, OR_PAT, PAREN_PAT, PATH, PATH_PAT, PATH_SEGMENT, RANGE_PAT, RECORD_PAT, RECORD_PAT_FIELD, RECORD_PAT_FIELD_LIST, REF_PAT, REST_PAT, SLICE_PAT, TUPLE_PAT, TUPLE_STRUCT_PAT, WILDCARD_PAT}
+use Rattle.rap_base.specs.TokenKind.{EOF, IDENT, SEMICOLON, COMMA, COLON, DOT, DOT2, DOT2EQ, EQ, L_PAREN, R_PAREN, L_BRACK, R_BRACK, L_CURLY, R_CURLY, AMP, AT, MINUS, PIPE, UNDERSCORE, LIFETIME_IDENT, INT_NUMBER, FLOAT_NUMBER, CONST_KW, CRATE_KW, SELF_TYPE_KW, SUPER_KW, IF_KW, IN_KW, MUT_KW, REF_KW, BANG, COLON2}
 use Rattle.rap_grammar_scripts.specs.First.{one_of}
 use Rattle.rap_grammar_scripts.specs.Test.{Test, also, comes, kind_so, negated}
 use Rattle.rap_grammar_scripts.specs.Words.{is_at}
-use Rattle.rap_grammar_table.specs.Category.{Pattern, SinglePattern, PatternPath, RestPattern, Block}
-use Rattle.rap_grammar_table.specs.SharedRows.{attrs, literal, name, path_names, symbol_kinds}
+use Rattle.rap_grammar_table.specs.Category.{Pattern, SinglePattern, ParamPattern, PatternPath, RestPattern, Block}
+use Rattle.rap_grammar_table.specs.SharedRows.{attrs, literal, name, name_ref, path_names, symbol_kinds}
 use Rattle.rap_grammar_table.specs.Known.{Place}
 use Rattle.rap_grammar_table.specs.Notation.{Part, ◌⊳◌, t, ts, names, op, c, node, opt, either, many, commas, alone, guard, of_kinds}
+use Rattle.rap_grammar_table.specs.TypeRows.{more_expr_segments}
 
 -- what may follow a pattern: a `:` is that of a type
 abbrev pub type_colon : List Place
@@ -43,6 +44,11 @@ record_field =
     either (node NAME_REF (names (IDENT ∷ INT_NUMBER ∷ [])) ⊳ t COLON ⊳ c Pattern)
     (node IDENT_PAT (opt (t REF_KW) ⊳ opt (t MUT_KW) ⊳ name)))
 
+abbrev pub pattern_fields : Part
+pattern_fields =
+    node RECORD_PAT_FIELD_LIST
+    (t L_CURLY ⊳ commas (either record_field (node REST_PAT (attrs ⊳ op DOT2))) ⊳ t R_CURLY)
+
 abbrev pub element : Part
 element = either (c Pattern) (c RestPattern)
 
@@ -60,9 +66,7 @@ single_rows =
     ∷ node RANGE_PAT (literal_pattern ⊳ either (op DOT2EQ) (op DOT2) ⊳ literal_pattern)
     ∷ node PATH_PAT (guard is_lone_name ⊳ c PatternPath)
     ∷ node TUPLE_STRUCT_PAT (guard is_lone_name ⊳ c PatternPath ⊳ t L_PAREN ⊳ commas element ⊳ t R_PAREN)
-    ∷ node RECORD_PAT
-    (guard is_lone_name ⊳ c PatternPath ⊳ node RECORD_PAT_FIELD_LIST
-    (t L_CURLY ⊳ commas (either record_field (node REST_PAT (attrs ⊳ op DOT2))) ⊳ t R_CURLY))
+    ∷ node RECORD_PAT (guard is_lone_name ⊳ c PatternPath ⊳ pattern_fields)
     ∷ node CONST_BLOCK_PAT (t CONST_KW ⊳ c Block)
     ∷ []
 
@@ -77,10 +81,20 @@ or_rows =
     ∷ node OR_PAT (t PIPE ⊳ c SinglePattern ⊳ many (t PIPE ⊳ c SinglePattern))
     ∷ []
 
--- The pattern of a parameter of a function: none that may begin as a `self` does.
+-- The pattern of a parameter of a function: none that may begin as a `self` does, with a `&` before it or not.
+abbrev pub param_names : List ℕ
+param_names = IDENT ∷ SUPER_KW ∷ CRATE_KW ∷ SELF_TYPE_KW ∷ []
+
+abbrev pub param_path : Part
+param_path = node PATH (node PATH_SEGMENT (name_ref param_names)) ⊳ more_expr_segments
+
 abbrev pub param_pattern_rows : List Part
 param_pattern_rows =
-    node IDENT_PAT (opt (t REF_KW) ⊳ opt (t MUT_KW) ⊳ name)
+    node IDENT_PAT (opt (t REF_KW) ⊳ opt (t MUT_KW) ⊳ name ⊳ alone (opt (t AT ⊳ c SinglePattern)))
     ∷ node WILDCARD_PAT (t UNDERSCORE)
     ∷ node TUPLE_PAT (t L_PAREN ⊳ element ⊳ t COMMA ⊳ commas element ⊳ t R_PAREN)
+    ∷ node SLICE_PAT (t L_BRACK ⊳ commas element ⊳ t R_BRACK)
+    ∷ node REF_PAT (t AMP ⊳ either (t MUT_KW) (guard (is_at MUT_KW)) ⊳ c ParamPattern)
+    ∷ node TUPLE_STRUCT_PAT (guard is_lone_name ⊳ param_path ⊳ t L_PAREN ⊳ commas element ⊳ t R_PAREN)
+    ∷ node RECORD_PAT (guard is_lone_name ⊳ param_path ⊳ pattern_fields)
     ∷ []
