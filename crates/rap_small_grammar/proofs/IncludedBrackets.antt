@@ -107,7 +107,7 @@ puts_call_name {kinds = kinds} {a = a} n h r = puts (call_name kinds a n h) (rw 
 call_in : {ks : List Record} {t : Forest} → IsMacroCall ks t → AreTokens ks → Makes Item ks t
 call_in (called {c = c} {ks = ks} n x o d i) (one_token e (one_token f (one_token g h))) =
     let m = balanced_in d (left ks (c ∷ []) h) in
-    makes 16 refl
+    makes 17 refl
     (opens (none_comes (opens (opens (opens (puts_call_name n refl
     (closes (closes (closes (folds_up folded_none (puts_token x (one_way
     (opens (puts_token o (repeats m (puts_token i (closes (closes done))))))))))))))))))

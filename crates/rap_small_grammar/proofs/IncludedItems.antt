@@ -43,7 +43,8 @@ name_row (name_given n) r = opens (puts_name n refl (closes r))
 -- the pattern of a parameter
 pub param_pattern : {ks : List Record} {t : Forest} → old.Derives old.Bind ks t → Makes ParamPattern ks t
 param_pattern (bind_name (name_given n)) =
-    makes 0 refl (opens (other_way (other_way (opens (puts_name n refl (closes (closes done)))))))
+    makes 0 refl
+    (opens (other_way (other_way (opens (puts_name n refl (closes (no_group (closes done))))))))
 
 -- Parameters.
 pub data ParamSo : List Record → Forest → Type 0 where
