@@ -14,15 +14,15 @@ use std::alloc::Global;
 
 // The claims of a file with one module that has no body.
 const MODULE: [Claim; 11] = [
-    Claim::Row(2716, 0, 0),
-    Claim::LastTurn(1815, 0),
-    Claim::Row(2716, 0, 0),
-    Claim::LastTurn(2148, 2),
-    Claim::Row(1716, 0, 0),
+    Claim::Row(2654, 0, 0),
+    Claim::LastTurn(1753, 0),
+    Claim::Row(2654, 0, 0),
+    Claim::LastTurn(2086, 2),
+    Claim::Row(1654, 0, 0),
     Claim::Category(28, 3, 0, 3),
-    Claim::Row(1641, 0, 3),
-    Claim::Row(2716, 3, 3),
-    Claim::LastTurn(1641, 7),
+    Claim::Row(1579, 0, 3),
+    Claim::Row(2654, 3, 3),
+    Claim::LastTurn(1579, 7),
     Claim::OneTurn(6, 8),
     Claim::Row(0, 0, 3),
 ];
