@@ -10,13 +10,14 @@ use Rattle.rap_grammar_table.proofs.Evaluate.{behind}
 use Rattle.rap_grammar_table.proofs.OperatorHints.{atom_kinds, block_kinds, operand_kinds, open_kinds, operator_kinds, end_kinds, arrow, operand_ends, closed_follows, cast_follows, operand_follows, atom_follows, path_follows, path_heads, places_in}
 use Rattle.rap_grammar_table.proofs.SharedHints.{attr_heads, global_heads}
 use Rattle.rap_grammar_table.proofs.TypeHints.{plain_read_by}
-use Rattle.rap_grammar_table.specs.SharedRows.{literals, path_names}
-use Rattle.rap_grammar_table.specs.ExprRows.{round_tree_rows, brace_tree_rows, arg_list_rows, name_expr_rows, record_value_rows, plain_atoms, atom_rows, operand_rows, prefixed_rows, else_rows, stmt_operand_rows, stmt_prefixed_rows, open_atoms, open_prefixed_rows, closed_rows, with_cast_rows, range_end_rows, open_or_rows, open_and_rows, expr_rows, without_let, condition_rows, guard_rows, cast_path_rows, cast_type_rows}
-use Rattle.rap_grammar_table.specs.Category.{Level, Or, And, Comparison, BitOr, BitXor, BitAnd, Shift, Sum, Product}
+use Rattle.rap_grammar_table.proofs.Ways.{same_flag}
+use Rattle.rap_grammar_table.specs.Category.{Level, Or, And, Comparison, BitOr, BitXor, BitAnd, Shift, Sum, Product, Atom, BraceTree, Closed, OpenAnd, Prefixed, RangeEnd, RecordValue, StmtPrefixed, WithCast}
+use Rattle.rap_grammar_table.specs.ExprRows.{round_tree_rows, arg_list_rows, name_expr_rows, plain_atoms, operand_rows, else_rows, stmt_operand_rows, open_atoms, open_prefixed_rows, open_or_rows, expr_rows, without_let, condition_rows, guard_rows, cast_path_rows, cast_type_rows}
 use Rattle.rap_grammar_table.specs.Known.{Place, anything}
 use Rattle.rap_grammar_table.specs.Notation.{Part, rows_of, of_kinds}
-use Rattle.rap_grammar_table.proofs.Ways.{same_flag}
 use Rattle.rap_grammar_table.specs.Operators.{expr_ends}
+use Rattle.rap_grammar_table.specs.Rows.{rows}
+use Rattle.rap_grammar_table.specs.SharedRows.{literals, path_names}
 use Rattle.rap_grammar_table.specs.TypeRows.{expr_path_rows}
 
 -- the rule of an expression with these restrictions and this power
@@ -87,7 +88,7 @@ round_tree_entry =
 
 abbrev pub brace_tree_entry : Entry
 brace_tree_entry =
-    text brace_tree_rows ((of_kinds (L_CURLY ∷ []) ∷ []) ∷ []) anything
+    text (rows BraceTree) ((of_kinds (L_CURLY ∷ []) ∷ []) ∷ []) anything
 
 abbrev pub arg_list_entry : Entry
 arg_list_entry =
@@ -104,7 +105,7 @@ name_expr_entry =
 
 abbrev pub record_value_entry : Entry
 record_value_entry =
-    text record_value_rows ((of_kinds (IDENT ∷ INT_NUMBER ∷ []) ∷ []) ∷ attr_heads)
+    text (rows RecordValue) ((of_kinds (IDENT ∷ INT_NUMBER ∷ []) ∷ []) ∷ attr_heads)
     ((of_kinds (COMMA ∷ R_CURLY ∷ []) ∷ []) ∷ [])
 
 abbrev pub atom_firsts : List (List Place)
@@ -113,7 +114,7 @@ atom_firsts =
 
 abbrev pub atom_entry : Bool → Entry
 atom_entry forbid =
-    nodes_with ((something ∷ []) ∷ []) no_rule (atom_rows forbid) atom_firsts (atom_follows forbid)
+    nodes_with ((something ∷ []) ∷ []) no_rule (rows (Atom forbid)) atom_firsts (atom_follows forbid)
 
 -- what a value before an `else` begins with
 abbrev pub plain_atom_entry : Entry
@@ -157,7 +158,7 @@ operand_entry forbid =
 
 abbrev pub prefixed_entry : Bool → Entry
 prefixed_entry forbid =
-    nodes_of (by_expr forbid false 255 (something ∷ [])) (prefixed_rows forbid) operand_firsts
+    nodes_of (by_expr forbid false 255 (something ∷ [])) (rows (Prefixed forbid)) operand_firsts
     (operand_follows forbid)
 
 abbrev pub else_values_of : ℕ → Entry
@@ -181,7 +182,7 @@ stmt_operand_entry =
 
 abbrev pub stmt_prefixed_entry : Entry
 stmt_prefixed_entry =
-    nodes_of (by_expr false true 255 (something ∷ [])) stmt_prefixed_rows operand_firsts (operand_follows false)
+    nodes_of (by_expr false true 255 (something ∷ [])) (rows StmtPrefixed) operand_firsts (operand_follows false)
 
 abbrev pub open_firsts : List (List Place)
 open_firsts =
@@ -216,12 +217,12 @@ power_behind Product = 12
 
 abbrev pub closed_entry : Bool → Level → Entry
 closed_entry forbid level =
-    nodes_of (by_expr forbid false (power_behind level) (something ∷ [])) (closed_rows forbid level)
+    nodes_of (by_expr forbid false (power_behind level) (something ∷ [])) (rows (Closed forbid level))
     (kinds_only operand_kinds) (closed_follows forbid (power_behind level))
 
 abbrev pub with_cast_entry : Bool → Level → Entry
 with_cast_entry forbid level =
-    nodes_of (by_expr forbid false (power_behind level) (something ∷ [])) (with_cast_rows forbid level)
+    nodes_of (by_expr forbid false (power_behind level) (something ∷ [])) (rows (WithCast forbid level))
     (kinds_only operand_kinds) (operand_ends forbid ++ places_in false (power_behind level) operators)
 
 abbrev pub range_read_by : Bool → Rule → List Outcome
@@ -232,7 +233,7 @@ range_read_by forbid r = []
 
 abbrev pub range_end_entry : Bool → Entry
 range_end_entry forbid =
-    nodes_of (range_read_by forbid) (range_end_rows forbid)
+    nodes_of (range_read_by forbid) (rows (RangeEnd forbid))
     (kinds_only operand_kinds) (operand_ends forbid)
 
 abbrev pub open_or_entry : Entry
@@ -242,7 +243,7 @@ open_or_entry =
 
 abbrev pub open_and_entry : Entry
 open_and_entry =
-    nodes_of (by_expr false false 5 (something ∷ [])) open_and_rows (kinds_only (operand_kinds ++ open_kinds))
+    nodes_of (by_expr false false 5 (something ∷ [])) (rows OpenAnd) (kinds_only (operand_kinds ++ open_kinds))
     (expr_ends false)
 
 abbrev pub expr_entry : Entry

@@ -12,11 +12,12 @@ use Rattle.rap_grammar_table.proofs.ExprHints.{by_expr, kinds_only, no_rule, nod
 use Rattle.rap_grammar_table.proofs.ItemHints.{item_heads}
 use Rattle.rap_grammar_table.proofs.PatternHints.{single_heads}
 use Rattle.rap_grammar_table.proofs.SharedHints.{attr_heads}
-use Rattle.rap_grammar_table.specs.Category.{Stmt}
+use Rattle.rap_grammar_table.specs.Category.{Block, If, WithBlock}
 use Rattle.rap_grammar_table.specs.Known.{Place, anything}
 use Rattle.rap_grammar_table.specs.Notation.{those, up_to, Part, each_under, rows_of, of_kinds}
 use Rattle.rap_grammar_table.specs.Operators.{expr_ends}
-use Rattle.rap_grammar_table.specs.StmtRows.{stmt_list_rows, block_rows, if_rows, arm_rows, last_arm_rows, with_block_rows, stmt_exprs, ending_block_rows, stmt_block_rows, stmt_rows, empty_stmt_rows, block_stmt_rows, tail_rows, front_rows, front_stmt_follows, last_stmt_follows}
+use Rattle.rap_grammar_table.specs.Rows.{rows}
+use Rattle.rap_grammar_table.specs.StmtRows.{stmt_list_rows, arm_rows, last_arm_rows, stmt_exprs, ending_block_rows, stmt_block_rows, stmt_rows, empty_stmt_rows, block_stmt_rows, tail_rows, front_rows, front_stmt_follows, last_stmt_follows}
 
 abbrev pub stmt_list_entry : Entry
 stmt_list_entry =
@@ -26,7 +27,7 @@ stmt_list_entry =
 
 abbrev pub block_entry : Entry
 block_entry =
-    text block_rows ((of_kinds (L_CURLY ∷ []) ∷ []) ∷ []) anything
+    text (rows Block) ((of_kinds (L_CURLY ∷ []) ∷ []) ∷ []) anything
 
 -- any token but an `else`
 abbrev pub no_else : List (List Place)
@@ -38,7 +39,7 @@ if_read_by r = []
 
 abbrev pub if_entry : Entry
 if_entry =
-    nodes_of if_read_by if_rows (kinds_only (IF_KW ∷ [])) no_else
+    nodes_of if_read_by (rows If) (kinds_only (IF_KW ∷ [])) no_else
 
 abbrev pub arm_firsts : List (List Place)
 arm_firsts = (of_kinds (PIPE ∷ []) ∷ []) ∷ (single_heads ++ attr_heads)
@@ -54,7 +55,7 @@ last_arm_entry =
 
 abbrev pub with_block_entry : Entry
 with_block_entry =
-    nodes_with ((block ∷ []) ∷ []) no_rule with_block_rows with_block_firsts no_else
+    nodes_with ((block ∷ []) ∷ []) no_rule (rows WithBlock) with_block_firsts no_else
 
 abbrev pub stmt_expr_entry : Entry
 stmt_expr_entry =

@@ -8,10 +8,12 @@ use Rattle.rap_grammar_table.proofs.Entry.{Entry, text, read_text, of_names, tou
 use Rattle.rap_grammar_table.proofs.Evaluate.{behind}
 use Rattle.rap_grammar_table.proofs.OperatorHints.{cast_follows}
 use Rattle.rap_grammar_table.proofs.SharedHints.{global_heads, lifetime_head, name_heads, other_heads, paren_heads, plain_firsts, segment_follows, type_firsts}
-use Rattle.rap_grammar_table.specs.SharedRows.{literals, path_names, use_names, bound_kinds, plus_follows, symbol_kinds, type_follows}
+use Rattle.rap_grammar_table.specs.Category.{AnchoredPath, Bound, Bounds, GlobalPath, Path, PathBeforePlus, SimplePath, TraitRef, UsePath}
 use Rattle.rap_grammar_table.specs.Known.{Place, never, anything}
 use Rattle.rap_grammar_table.specs.Notation.{those, up_to, of_kinds}
-use Rattle.rap_grammar_table.specs.TypeRows.{args_rows, path_rows, path_before_plus_rows, use_path_rows, global_path_rows, anchored_path_rows, expr_path_rows, simple_path_rows, anchor_trait_rows, bound_rows, bounds_rows, param_name_rows, fn_pointer_params_rows, trait_ref_rows, type_rows, plain_type_rows, type_before_plus_rows, symbol_type_rows}
+use Rattle.rap_grammar_table.specs.Rows.{rows}
+use Rattle.rap_grammar_table.specs.SharedRows.{literals, path_names, use_names, bound_kinds, plus_follows, symbol_kinds, type_follows}
+use Rattle.rap_grammar_table.specs.TypeRows.{args_rows, expr_path_rows, anchor_trait_rows, param_name_rows, fn_pointer_params_rows, type_rows, plain_type_rows, type_before_plus_rows, symbol_type_rows}
 
 -- what an argument begins with
 abbrev pub argument_kinds : List ℕ
@@ -30,23 +32,23 @@ args_entry = text args_rows args_firsts (segment_follows ++ cast_follows)
 
 abbrev pub path_entry : Entry
 path_entry =
-    text path_rows (name_heads path_names) type_follows
+    text (rows Path) (name_heads path_names) type_follows
 
 abbrev pub path_before_plus_entry : Entry
 path_before_plus_entry =
-    text path_before_plus_rows (name_heads path_names) plus_follows
+    text (rows PathBeforePlus) (name_heads path_names) plus_follows
 
 abbrev pub use_path_entry : Entry
 use_path_entry =
-    text use_path_rows (name_heads use_names) plus_follows
+    text (rows UsePath) (name_heads use_names) plus_follows
 
 abbrev pub global_path_entry : Entry
 global_path_entry =
-    text global_path_rows global_heads plus_follows
+    text (rows GlobalPath) global_heads plus_follows
 
 abbrev pub anchored_path_entry : Entry
 anchored_path_entry =
-    text anchored_path_rows ((of_kinds (L_ANGLE ∷ []) ∷ []) ∷ []) plus_follows
+    text (rows AnchoredPath) ((of_kinds (L_ANGLE ∷ []) ∷ []) ∷ []) plus_follows
 
 -- any token but a `:` may follow it, and a `:` that touches no other
 abbrev pub expr_path_follows : List (List Place)
@@ -66,7 +68,7 @@ expr_path_entry =
 
 abbrev pub simple_path_entry : Entry
 simple_path_entry =
-    text simple_path_rows
+    text (rows SimplePath)
     ((of_names path_names ∷ of_kinds (L_ANGLE ∷ L_PAREN ∷ FOR_KW ∷ []) ∷ []) ∷
     behind (of_names path_names) (colons ((of_kinds (L_ANGLE ∷ L_PAREN ∷ path_names) ∷ []) ∷ [])))
     ((of_kinds (FOR_KW ∷ []) ∷ []) ∷ [])
@@ -85,7 +87,7 @@ bound_firsts = (of_kinds bound_kinds ∷ []) ∷ global_heads
 
 abbrev pub bound_entry : Entry
 bound_entry =
-    text bound_rows bound_firsts plus_follows
+    text (rows Bound) bound_firsts plus_follows
 
 abbrev pub bounds_read_by : Rule → List Outcome
 bounds_read_by knot.BoundsWithoutColon = something ∷ []
@@ -93,7 +95,7 @@ bounds_read_by r = []
 
 abbrev pub bounds_entry : Entry
 bounds_entry =
-    read_text bounds_read_by bounds_rows
+    read_text bounds_read_by (rows Bounds)
     (bound_firsts ++ type_follows) type_follows
 
 -- the parameters of a function pointer, and the name of one
@@ -124,7 +126,7 @@ type_read_by r = []
 
 abbrev pub trait_ref_entry : Entry
 trait_ref_entry =
-    read_text type_read_by trait_ref_rows
+    read_text type_read_by (rows TraitRef)
     ((of_names path_names ∷ of_kinds (L_ANGLE ∷ L_PAREN ∷ FOR_KW ∷ []) ∷ []) ∷
     behind (of_names path_names) (colons ((of_kinds (L_ANGLE ∷ L_PAREN ∷ path_names) ∷ []) ∷ [])))
     ((of_kinds (FOR_KW ∷ []) ∷ []) ∷ [])

@@ -4,17 +4,14 @@ use Rattle.rap_base.specs.NodeKind.{ARG_LIST, ARRAY_EXPR, ARRAY_TYPE, AWAIT_EXPR
 use Rattle.rap_base.specs.TokenKind.{IDENT, SEMICOLON, COMMA, COLON, COLON2, EQ, L_PAREN, R_PAREN, L_BRACK, R_BRACK, L_CURLY, R_CURLY, L_ANGLE, R_ANGLE, AMP, STAR, BANG, MINUS, PIPE, DOT, DOT2, QUESTION, UNDERSCORE, LIFETIME_IDENT, INT_NUMBER, ASYNC_KW, AWAIT_KW, BECOME_KW, BREAK_KW, CONST_KW, CONTINUE_KW, LET_KW, MOVE_KW, MUT_KW, RAW_KW, RETURN_KW, YIELD_KW}
 use Rattle.rap_grammar_scripts.specs.Words.{next_is}
 use Rattle.rap_grammar_table.specs.AttributeRows.{tree_in}
-use Rattle.rap_grammar_table.specs.Category.{Ty, PlainTy, Argument, Expr, PlainAtom, ElsePrefixed, StmtList, Pattern, SinglePattern, AtomPath, RoundTree, ArgList, NameExpr, CastTy, CastPath, WithBlock, Atom, Operand, Prefixed, StmtOperand, StmtPrefixed, OpenAtom, OpenPrefixed, RecordValue, Assigned, WithCast, And, Category, Level, Or}
+use Rattle.rap_grammar_table.specs.Category.{Ty, PlainTy, Argument, Expr, PlainAtom, ElsePrefixed, StmtList, Pattern, SinglePattern, AtomPath, RoundTree, ArgList, NameExpr, CastTy, CastPath, WithBlock, Atom, Operand, Prefixed, StmtPrefixed, OpenAtom, OpenPrefixed, RecordValue, Assigned, WithCast, And, Category, Or}
 use Rattle.rap_grammar_table.specs.SharedRows.{attrs, lifetime, literal, name_ref, path_names}
 use Rattle.rap_grammar_table.specs.Notation.{Part, ◌⊳◌, t, ts, weak, op, c, node, opt, either, commas, commas_last, alone, guard, turn, around}
-use Rattle.rap_grammar_table.specs.Operators.{all_turns, and_open, assign_turns, behind, binary_cast, cast_turns, closed_turns, fresh, levels, range_turn, range_with_end, tighter}
+use Rattle.rap_grammar_table.specs.Operators.{all_turns, and_open, assign_turns, behind, binary_cast, cast_turns, fresh, levels, range_turn, range_with_end, tighter}
 use Rattle.rap_grammar_table.specs.TypeRows.{anchored_path, fn_pointer, global_path, named_paths, ret}
 
 abbrev pub round_tree_rows : List Part
 round_tree_rows = tree_in L_PAREN R_PAREN ∷ tree_in L_BRACK R_BRACK ∷ []
-
-abbrev pub brace_tree_rows : List Part
-brace_tree_rows = tree_in L_CURLY R_CURLY ∷ []
 
 -- The arguments of a call; and a name that is the value of its field too.
 abbrev pub arg_list_rows : List Part
@@ -29,9 +26,6 @@ record_field =
     node RECORD_EXPR_FIELD
     (attrs ⊳
     either (name_ref (IDENT ∷ INT_NUMBER ∷ []) ⊳ t COLON ⊳ guard (next_is COLON) ⊳ c Expr) (c NameExpr))
-
-abbrev pub record_value_rows : List Part
-record_value_rows = record_field ∷ []
 
 abbrev pub record_values : Part
 record_values =
@@ -60,9 +54,6 @@ plain_atoms =
 abbrev pub atoms : Bool → List Part
 atoms false = record_literal ∷ plain_atoms
 atoms true = plain_atoms
-
-abbrev pub atom_rows : Bool → List Part
-atom_rows forbid = atoms forbid
 
 -- What follows an operand directly: after a field by its name, which is the number 0, no call.
 abbrev pub turbofish : Part
@@ -112,9 +103,6 @@ abbrev pub operand_rows : Bool → List Part
 operand_rows forbid =
     (c (Atom forbid) ⊳ around 1 postfixes) ∷ (c WithBlock ⊳ around 1 postfixes) ∷ prefixes (Prefixed forbid)
 
-abbrev pub prefixed_rows : Bool → List Part
-prefixed_rows forbid = c (Operand forbid) ∷ []
-
 -- a value before an `else`, and an operand in it
 abbrev pub else_rows : List Part
 else_rows = (c PlainAtom ⊳ around 1 postfixes) ∷ prefixes ElsePrefixed
@@ -128,9 +116,6 @@ stmt_operand_rows =
     ∷ (node AWAIT_EXPR (c WithBlock ⊳ await_part) ⊳ around 1 postfixes)
     ∷ (node FIELD_EXPR (c WithBlock ⊳ field_part) ⊳ around 0 postfixes)
     ∷ prefixes StmtPrefixed
-
-abbrev pub stmt_prefixed_rows : List Part
-stmt_prefixed_rows = c StmtOperand ∷ []
 
 -- a block
 abbrev pub block_part : Part
@@ -159,23 +144,11 @@ open_prefixes =
 abbrev pub open_prefixed_rows : List Part
 open_prefixed_rows = c OpenAtom ∷ open_prefixes
 
-abbrev pub closed_rows : Bool → Level → List Part
-closed_rows forbid level = (c (Operand forbid) ⊳ around fresh (closed_turns forbid (tighter level))) ∷ []
-
 -- the same with a cast at the end, before operators that begin otherwise than generic arguments
-abbrev pub with_cast_rows : Bool → Level → List Part
-with_cast_rows forbid level = (c (Operand forbid) ⊳ around fresh (cast_turns forbid (tighter level))) ∷ []
-
-abbrev pub range_end_rows : Bool → List Part
-range_end_rows forbid = (c (Operand forbid) ⊳ around fresh (cast_turns forbid levels)) ∷ []
-
 -- the same where what takes in all that follows may stand at the end
 abbrev pub open_or_rows : List Part
 open_or_rows =
     (c (Operand false) ⊳ around fresh (cast_turns false (tighter Or) ⊳ and_open)) ∷ c OpenAtom ∷ open_prefixes
-
-abbrev pub open_and_rows : List Part
-open_and_rows = (c (Operand false) ⊳ around fresh (cast_turns false (tighter And))) ∷ c OpenAtom ∷ open_prefixes
 
 -- a range that has no end, and one that has no start
 abbrev pub open_range : Bool → Part

@@ -22,17 +22,11 @@ stmt_list_rows =
     t R_CURLY)
     ∷ []
 
-abbrev pub block_rows : List Part
-block_rows = block_part ∷ []
-
 abbrev pub if_after : Part → Part
 if_after pre = node IF_EXPR (pre ⊳ t IF_KW ⊳ c Condition ⊳ c Block ⊳ opt (t ELSE_KW ⊳ either (c If) block_part))
 
 abbrev pub none_before : Part
 none_before r = r
-
-abbrev pub if_rows : List Part
-if_rows = if_after none_before ∷ []
 
 -- the arms of a `match`
 abbrev pub arm_head : Part
@@ -77,9 +71,6 @@ attributed_blocks = with_blocks some_attrs
 
 abbrev pub attributed_call : Part
 attributed_call = node MACRO_EXPR (some_attrs ⊳ node MACRO_CALL (c AtomPath ⊳ t BANG ⊳ c RoundTree))
-
-abbrev pub with_block_rows : List Part
-with_block_rows = with_blocks none_before
 
 -- Expressions at the beginning of a statement, and in an arm: one that does not end with its block, and one that does.
 abbrev pub stmt_exprs : List Part

@@ -5,8 +5,8 @@ use Rattle.rap_base.specs.TokenKind.{IDENT, SEMICOLON, COMMA, COLON, COLON2, DOT
 use Rattle.rap_grammar_scripts.specs.First.{one_of}
 use Rattle.rap_grammar_scripts.specs.Test.{Test, also, comes, negated, or_else}
 use Rattle.rap_grammar_scripts.specs.Words.{is_at, kind_is, next_so}
-use Rattle.rap_grammar_table.specs.Category.{Ty, PlainTy, TyBeforePlus, AnchorTrait, Path, PathBeforePlus, UsePath, GlobalPath, AnchoredPath, Args, Argument, SimplePath, Bound, Bounds, Generics, ParamName, FnPointerParams, MacroPath, Expr, Category}
-use Rattle.rap_grammar_table.specs.SharedRows.{abi, attrs, macro_call, lifetime, name, name_ref, path_names, use_names}
+use Rattle.rap_grammar_table.specs.Category.{Ty, PlainTy, TyBeforePlus, AnchorTrait, Path, PathBeforePlus, UsePath, GlobalPath, AnchoredPath, Args, Argument, Bound, Bounds, Generics, ParamName, FnPointerParams, MacroPath, Expr, Category}
+use Rattle.rap_grammar_table.specs.SharedRows.{abi, attrs, macro_call, lifetime, name, name_ref, path_names}
 use Rattle.rap_grammar_table.specs.Known.{Place, anything}
 use Rattle.rap_grammar_table.specs.Notation.{Part, ◌⊳◌, t, ts, op, c, node, opt, either, commas, commas_last, until, alone, fold, guard, guard_before, of_kinds}
 
@@ -50,30 +50,15 @@ named_paths category kinds =
     call_segment category path_names)
     ∷ []
 
-abbrev pub path_rows : List Part
-path_rows = named_paths PlainTy path_names
-
-abbrev pub path_before_plus_rows : List Part
-path_before_plus_rows = named_paths TyBeforePlus path_names
-
-abbrev pub use_path_rows : List Part
-use_path_rows = named_paths TyBeforePlus use_names
-
 -- a path that begins with `::`, and one that begins with a type
 abbrev pub global_path : Part
 global_path = node PATH (node PATH_SEGMENT (op COLON2 ⊳ name_ref path_names ⊳ opt_args)) ⊳ more_segments
-
-abbrev pub global_path_rows : List Part
-global_path_rows = global_path ∷ []
 
 abbrev pub anchor : Part
 anchor = node TYPE_ANCHOR (t L_ANGLE ⊳ c Ty ⊳ opt (t AS_KW ⊳ c AnchorTrait) ⊳ t R_ANGLE)
 
 abbrev pub anchored_path : Part
 anchored_path = node PATH (node PATH (node PATH_SEGMENT anchor) ⊳ op COLON2 ⊳ segment path_names) ⊳ more_segments
-
-abbrev pub anchored_path_rows : List Part
-anchored_path_rows = anchored_path ∷ []
 
 -- a path in an expression, where `::` stands before its arguments
 abbrev pub expr_segment : Part
@@ -97,9 +82,6 @@ expr_path_rows =
     ∷ []
 
 -- a path with no return type, before a `for`, and the trait that it is
-abbrev pub simple_path_rows : List Part
-simple_path_rows = (node PATH (segment path_names) ⊳ more_segments) ∷ []
-
 abbrev pub anchor_trait_rows : List Part
 anchor_trait_rows = node PATH_TYPE (c UsePath) ∷ node PATH_TYPE (c GlobalPath) ∷ []
 
@@ -135,18 +117,12 @@ alone_or_in_parens [] = []
 alone_or_in_parens (a ∷ more) =
     node TYPE_BOUND (alone a) ∷ node TYPE_BOUND (t L_PAREN ⊳ alone a ⊳ t R_PAREN) ∷ alone_or_in_parens more
 
-abbrev pub bound_rows : List Part
-bound_rows = alone_or_in_parens bare_bounds
-
 -- bounds with `+` between them, and one behind the last or none
 abbrev pub bounds : Part
 bounds = until (c Bound ⊳ t PLUS) (alone (opt (c Bound)))
 
 abbrev pub bound_list : Part
 bound_list = node TYPE_BOUND_LIST bounds
-
-abbrev pub bounds_rows : List Part
-bounds_rows = bound_list ∷ []
 
 abbrev pub param_name_rows : List Part
 param_name_rows = node IDENT_PAT name ∷ node WILDCARD_PAT (t UNDERSCORE) ∷ []
@@ -217,9 +193,6 @@ bounded_symbol_types =
     ∷ bounded (for_type TyBeforePlus)
     ∷ bounded lifetime
     ∷ []
-
-abbrev pub trait_ref_rows : List Part
-trait_ref_rows = node PATH_TYPE (c SimplePath) ∷ []
 
 abbrev pub type_rows : List Part
 type_rows =
