@@ -49,7 +49,7 @@ fn walked(
 fn row_starts(number: usize) -> &'static [u16]
     ensures { result.now ≡ set_in number row_places }
 {
-    if number >= 129 {
+    if number >= 132 {
         return &[];
     }
     let starts = place_starts();
@@ -106,7 +106,7 @@ fn turn_at(first: usize, skips: usize) -> Option<Turn>
 pub fn turn_numbers(number: usize) -> Option<(usize, u16)>
     ensures { IfSome result (λ r. (r.0 ≡ (turn_in number turns).0) × (r.1 ≡ (turn_in number turns).1)) }
 {
-    if number >= 30 {
+    if number >= 31 {
         return None;
     }
     let (set, next) = turns()[number];

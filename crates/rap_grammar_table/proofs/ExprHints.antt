@@ -8,11 +8,11 @@ use Rattle.rap_grammar_scripts.specs.declared.rule.Rule.TheVariants as knot
 use Rattle.rap_grammar_table.proofs.Entry.{Entry, text, of_names, touching, colons}
 use Rattle.rap_grammar_table.proofs.Evaluate.{behind}
 use Rattle.rap_grammar_table.proofs.OperatorHints.{atom_kinds, block_kinds, operand_kinds, open_kinds, operator_kinds, end_kinds, arrow, operand_ends, closed_follows, cast_follows, operand_follows, atom_follows, path_follows, path_heads, places_in}
-use Rattle.rap_grammar_table.proofs.SharedHints.{attr_heads, global_heads}
+use Rattle.rap_grammar_table.proofs.SharedHints.{attr_heads, global_heads, plain_firsts}
 use Rattle.rap_grammar_table.proofs.TypeHints.{plain_read_by}
 use Rattle.rap_grammar_table.proofs.Ways.{same_flag}
-use Rattle.rap_grammar_table.specs.Category.{Level, Or, And, Comparison, BitOr, BitXor, BitAnd, Shift, Sum, Product, Atom, BraceTree, Closed, OpenAnd, Prefixed, RangeEnd, RecordValue, StmtPrefixed, WithCast}
-use Rattle.rap_grammar_table.specs.ExprRows.{round_tree_rows, arg_list_rows, name_expr_rows, plain_atoms, operand_rows, else_rows, stmt_operand_rows, open_atoms, open_prefixed_rows, open_or_rows, expr_rows, without_let, condition_rows, guard_rows, cast_path_rows, cast_type_rows}
+use Rattle.rap_grammar_table.specs.Category.{Level, Or, And, Comparison, BitOr, BitXor, BitAnd, Shift, Sum, Product, Atom, BraceTree, Closed, OpenAnd, Prefixed, RangeEnd, RecordValue, StmtPrefixed, WithCast, LastCastTy, ArgList}
+use Rattle.rap_grammar_table.specs.ExprRows.{round_tree_rows, name_expr_rows, plain_atoms, operand_rows, else_rows, stmt_operand_rows, open_atoms, open_prefixed_rows, open_or_rows, expr_rows, without_let, condition_rows, guard_rows, cast_path_rows, cast_type_rows}
 use Rattle.rap_grammar_table.specs.Known.{Place, anything}
 use Rattle.rap_grammar_table.specs.Notation.{Part, rows_of, of_kinds}
 use Rattle.rap_grammar_table.specs.Operators.{expr_ends}
@@ -93,7 +93,7 @@ brace_tree_entry =
 abbrev pub arg_list_entry : Entry
 arg_list_entry =
     unbraced_of
-    (text arg_list_rows
+    (text (rows ArgList)
     ((of_kinds (L_PAREN ∷ []) ∷ []) ∷ []) anything)
 
 abbrev pub name_expr_entry : Entry
@@ -293,3 +293,6 @@ cast_type_entry =
     (AMP ∷ STAR ∷ UNDERSCORE ∷ BANG ∷ L_BRACK ∷ L_PAREN ∷ L_ANGLE ∷ FN_KW ∷ UNSAFE_KW ∷ EXTERN_KW ∷ path_names) ++
     global_heads)
     cast_follows
+
+abbrev pub last_cast_type_entry : Entry
+last_cast_type_entry = nodes_of plain_read_by (rows LastCastTy) plain_firsts (expr_ends false)

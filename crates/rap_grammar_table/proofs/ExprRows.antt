@@ -5,7 +5,7 @@ use Rattle.rap_grammar_scripts.specs.Script.{Outcome, something}
 use Rattle.rap_grammar_scripts.specs.declared.arguments.Restrictions.{Restrictions}
 use Rattle.rap_grammar_scripts.specs.declared.rule.Rule.{Rule}
 use Rattle.rap_grammar_scripts.specs.declared.rule.Rule.TheVariants as knot
-use Rattle.rap_grammar_table.proofs.ExprHints.{outcomes_if, by_expr, arg_list_entry, atom_entry, atom_path_entry, brace_tree_entry, cast_path_entry, cast_type_entry, else_prefixed_entry, else_value_entry, name_expr_entry, open_atom_entry, open_prefixed_entry, operand_entry, plain_atom_entry, prefixed_entry, round_tree_entry, stmt_operand_entry, stmt_prefixed_entry}
+use Rattle.rap_grammar_table.proofs.ExprHints.{outcomes_if, by_expr, arg_list_entry, atom_entry, atom_path_entry, brace_tree_entry, cast_path_entry, cast_type_entry, last_cast_type_entry, else_prefixed_entry, else_value_entry, name_expr_entry, open_atom_entry, open_prefixed_entry, operand_entry, plain_atom_entry, prefixed_entry, round_tree_entry, stmt_operand_entry, stmt_prefixed_entry}
 use Rattle.rap_grammar_table.proofs.Entry.{Entry}
 use Rattle.rap_grammar_table.proofs.Refusal.{accepted}
 use Rattle.rap_grammar_table.proofs.Table.{table}
@@ -158,6 +158,19 @@ cast_types_read_by r h = absurd cc
 
 pub cast_types : EntryChecked table cast_type_entry
 cast_types = record { reads = cast_types_read_by; begins = refl; followed = refl; nodes = λ h. refl }
+
+last_cast_types_read :
+    all_accepted (is_read table last_cast_type_entry (knot.TypeWithBoundsCond false)) last_cast_type_entry.rows ≡ accepted
+unfolding scripts tests
+last_cast_types_read = refl
+
+last_cast_types_read_by : (r : Rule) → some_outcome (last_cast_type_entry.read_by r) ≡ true →
+    all_accepted (is_read table last_cast_type_entry r) last_cast_type_entry.rows ≡ accepted
+last_cast_types_read_by (knot.TypeWithBoundsCond false) h = last_cast_types_read
+last_cast_types_read_by r h = absurd cc
+
+pub last_cast_types : EntryChecked table last_cast_type_entry
+last_cast_types = record { reads = last_cast_types_read_by; begins = refl; followed = refl; nodes = λ h. refl }
 
 pub plain_atoms_so : EntryChecked table plain_atom_entry
 plain_atoms_so = record { reads = λ r h. absurd cc; begins = refl; followed = refl; nodes = λ h. refl }

@@ -1,6 +1,6 @@
 -- What the checker is told of patterns.
 use Rattle.std.specs.Prelude.{ℕ, true, false, List, [], ◌∷◌, ◌++◌}
-use Rattle.rap_base.specs.TokenKind.{IDENT, COMMA, DOT, L_PAREN, R_PAREN, L_BRACK, R_BRACK, L_CURLY, L_ANGLE, AMP, AT, MINUS, PIPE, UNDERSCORE, INT_NUMBER, FLOAT_NUMBER, CONST_KW, MUT_KW, REF_KW}
+use Rattle.rap_base.specs.TokenKind.{IDENT, COMMA, DOT, BANG, L_PAREN, R_PAREN, L_BRACK, R_BRACK, L_CURLY, L_ANGLE, AMP, AT, MINUS, PIPE, UNDERSCORE, INT_NUMBER, FLOAT_NUMBER, CONST_KW, MUT_KW, REF_KW}
 use Rattle.rap_grammar_scripts.specs.Script.{Outcome, something}
 use Rattle.rap_grammar_scripts.specs.declared.rule.Rule.{Rule}
 use Rattle.rap_grammar_scripts.specs.declared.rule.Rule.TheVariants as knot
@@ -8,16 +8,17 @@ use Rattle.rap_grammar_table.proofs.Entry.{Entry, text, read_text, of_names, tou
 use Rattle.rap_grammar_table.proofs.Evaluate.{behind}
 use Rattle.rap_grammar_table.proofs.SharedHints.{global_heads}
 use Rattle.rap_grammar_table.proofs.Walk.{outcome_guesses}
-use Rattle.rap_grammar_table.specs.Category.{Pattern}
+use Rattle.rap_grammar_table.specs.Category.{Pattern, RestPattern}
 use Rattle.rap_grammar_table.specs.SharedRows.{literals, path_names}
 use Rattle.rap_grammar_table.specs.Known.{Place}
 use Rattle.rap_grammar_table.specs.Notation.{rows_of, of_kinds}
-use Rattle.rap_grammar_table.specs.PatternRows.{type_colon, pattern_ends, pattern_follows, single_follows, single_rows, rest_rows, or_rows, param_names, param_pattern_rows}
+use Rattle.rap_grammar_table.specs.PatternRows.{type_colon, global_colon, pattern_ends, pattern_follows, single_follows, single_rows, named_rest_rows, or_rows, param_names, param_pattern_rows}
 use Rattle.rap_grammar_table.specs.TypeRows.{expr_path_rows}
+use Rattle.rap_grammar_table.specs.Rows.{rows}
 
 -- what a pattern begins with
 abbrev pub name_nexts : List (List Place)
-name_nexts = (of_kinds (AT ∷ L_PAREN ∷ L_CURLY ∷ PIPE ∷ pattern_ends) ∷ []) ∷ type_colon ∷ []
+name_nexts = (of_kinds (AT ∷ L_PAREN ∷ L_CURLY ∷ BANG ∷ PIPE ∷ pattern_ends) ∷ []) ∷ type_colon ∷ global_colon ∷ []
 
 abbrev pub single_heads : List (List Place)
 single_heads =
@@ -25,10 +26,6 @@ single_heads =
     ∷ (of_kinds (MINUS ∷ []) ∷ of_kinds (INT_NUMBER ∷ FLOAT_NUMBER ∷ []) ∷ [])
     ∷ (global_heads ++
     behind (of_names path_names) (name_nexts ++ colons ((of_kinds (L_ANGLE ∷ path_names) ∷ []) ∷ [])))
-
-abbrev pub plain_read_by : Rule → List Outcome
-plain_read_by knot.Pattern = something ∷ []
-plain_read_by r = []
 
 abbrev pub pattern_read_by : Rule → List Outcome
 pattern_read_by knot.Pattern = something ∷ []
@@ -41,7 +38,7 @@ path_entry =
     ((of_kinds (L_ANGLE ∷ []) ∷ [])
     ∷ (global_heads ++
     behind (of_names path_names) (name_nexts ++ colons ((of_kinds (L_ANGLE ∷ path_names) ∷ []) ∷ []))))
-    ((of_kinds (L_PAREN ∷ L_CURLY ∷ PIPE ∷ pattern_ends) ∷ []) ∷ type_colon ∷ [])
+    ((of_kinds (L_PAREN ∷ L_CURLY ∷ BANG ∷ PIPE ∷ pattern_ends) ∷ []) ∷ type_colon ∷ global_colon ∷ [])
 
 abbrev pub single_read_by : Rule → List Outcome
 single_read_by knot.PatternSingle = something ∷ []
@@ -54,9 +51,20 @@ either_read_by r = []
 
 abbrev pub rest_entry : Entry
 rest_entry =
-    read_text plain_read_by rest_rows
-    ((touching DOT ∷ of_kinds (DOT ∷ []) ∷ of_kinds (COMMA ∷ R_PAREN ∷ R_BRACK ∷ []) ∷ []) ∷ [])
+    read_text either_read_by (rows RestPattern)
+    ((touching DOT ∷ of_kinds (DOT ∷ []) ∷ of_kinds (COMMA ∷ R_PAREN ∷ R_BRACK ∷ []) ∷ [])
+    ∷ [])
     ((of_kinds (COMMA ∷ R_PAREN ∷ R_BRACK ∷ []) ∷ []) ∷ [])
+
+abbrev pub plain_read_by : Rule → List Outcome
+plain_read_by knot.Pattern = something ∷ []
+plain_read_by r = []
+
+abbrev pub named_rest_entry : Entry
+named_rest_entry =
+    read_text plain_read_by named_rest_rows
+    ((of_kinds (REF_KW ∷ MUT_KW ∷ []) ∷ []) ∷ (of_names (IDENT ∷ []) ∷ of_kinds (AT ∷ []) ∷ []) ∷ [])
+    ((of_kinds (COMMA ∷ R_BRACK ∷ []) ∷ []) ∷ [])
 
 abbrev pub single_entry : Entry
 single_entry =
@@ -88,5 +96,5 @@ param_pattern_entry =
     ∷ (of_kinds (AMP ∷ []) ∷ of_kinds (param_names ++ behind_ref) ∷ [])
     ∷ (of_kinds (AMP ∷ []) ∷ of_kinds (MUT_KW ∷ []) ∷ of_kinds (MUT_KW ∷ (param_names ++ behind_ref)) ∷ [])
     ∷ behind (of_names param_names)
-    ((of_kinds (AT ∷ L_PAREN ∷ L_CURLY ∷ []) ∷ []) ∷ type_colon ∷ colons ((of_kinds (L_ANGLE ∷ path_names) ∷ []) ∷ [])))
-    (type_colon ∷ [])
+    ((of_kinds (AT ∷ L_PAREN ∷ L_CURLY ∷ []) ∷ []) ∷ type_colon ∷ global_colon ∷ colons ((of_kinds (L_ANGLE ∷ path_names) ∷ []) ∷ [])))
+    (type_colon ∷ global_colon ∷ [])

@@ -4,7 +4,7 @@ use Rattle.rap_grammar_scripts.specs.declared.rule.Rule.{Rule}
 use Rattle.rap_grammar_scripts.specs.declared.rule.Rule.TheVariants as knot
 use Rattle.rap_grammar_table.proofs.Refusal.{accepted}
 use Rattle.rap_grammar_table.proofs.Table.{table}
-use Rattle.rap_grammar_table.proofs.PatternHints.{param_pattern_entry, path_entry, pattern_entry, rest_entry, single_entry}
+use Rattle.rap_grammar_table.proofs.PatternHints.{named_rest_entry, param_pattern_entry, path_entry, pattern_entry, rest_entry, single_entry}
 use Rattle.rap_grammar_table.proofs.Walk.{all_accepted}
 use Rattle.rap_grammar_table.proofs.Ways.{some_outcome}
 use Rattle.rap_grammar_table.proofs.Entries.{is_read, EntryChecked}
@@ -43,13 +43,30 @@ rests_read : all_accepted (is_read table rest_entry knot.Pattern) rest_entry.row
 unfolding scripts
 rests_read = refl
 
+rests_read_alone : all_accepted (is_read table rest_entry knot.PatternSingle) rest_entry.rows ≡ accepted
+unfolding scripts
+rests_read_alone = refl
+
 rests_read_by : (r : Rule) → some_outcome (rest_entry.read_by r) ≡ true →
     all_accepted (is_read table rest_entry r) rest_entry.rows ≡ accepted
 rests_read_by knot.Pattern h = rests_read
+rests_read_by knot.PatternSingle h = rests_read_alone
 rests_read_by r h = absurd cc
 
 pub rest_patterns : EntryChecked table rest_entry
 rest_patterns = record { reads = rests_read_by; begins = refl; followed = refl; nodes = λ h. refl }
+
+named_rests_read : all_accepted (is_read table named_rest_entry knot.Pattern) named_rest_entry.rows ≡ accepted
+unfolding scripts
+named_rests_read = refl
+
+named_rests_read_by : (r : Rule) → some_outcome (named_rest_entry.read_by r) ≡ true →
+    all_accepted (is_read table named_rest_entry r) named_rest_entry.rows ≡ accepted
+named_rests_read_by knot.Pattern h = named_rests_read
+named_rests_read_by r h = absurd cc
+
+pub named_rests : EntryChecked table named_rest_entry
+named_rests = record { reads = named_rests_read_by; begins = refl; followed = refl; nodes = λ h. refl }
 
 param_patterns_read : all_accepted (is_read table param_pattern_entry knot.Pattern) param_pattern_entry.rows ≡ accepted
 unfolding scripts

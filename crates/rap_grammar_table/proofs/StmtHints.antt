@@ -12,12 +12,12 @@ use Rattle.rap_grammar_table.proofs.ExprHints.{by_expr, kinds_only, no_rule, nod
 use Rattle.rap_grammar_table.proofs.ItemHints.{item_heads}
 use Rattle.rap_grammar_table.proofs.PatternHints.{single_heads}
 use Rattle.rap_grammar_table.proofs.SharedHints.{attr_heads}
-use Rattle.rap_grammar_table.specs.Category.{Block, If, WithBlock}
+use Rattle.rap_grammar_table.specs.Category.{AttrExpr, Block, If, WithBlock, EmptyStmt, EndingBlock, StmtBlock}
 use Rattle.rap_grammar_table.specs.Known.{Place, anything}
 use Rattle.rap_grammar_table.specs.Notation.{those, up_to, Part, each_under, rows_of, of_kinds}
 use Rattle.rap_grammar_table.specs.Operators.{expr_ends}
 use Rattle.rap_grammar_table.specs.Rows.{rows}
-use Rattle.rap_grammar_table.specs.StmtRows.{stmt_list_rows, arm_rows, last_arm_rows, stmt_exprs, ending_block_rows, stmt_block_rows, stmt_rows, empty_stmt_rows, block_stmt_rows, tail_rows, front_rows, front_stmt_follows, last_stmt_follows}
+use Rattle.rap_grammar_table.specs.StmtRows.{stmt_list_rows, arm_rows, last_arm_rows, stmt_exprs, stmt_rows, block_stmt_rows, tail_rows, front_rows, front_stmt_follows, last_stmt_follows}
 
 abbrev pub stmt_list_entry : Entry
 stmt_list_entry =
@@ -69,11 +69,11 @@ after_stmt_block =
 
 abbrev pub ending_block_entry : Entry
 ending_block_entry =
-    nodes_with ((block ∷ []) ∷ []) no_rule ending_block_rows with_block_firsts after_stmt_block
+    nodes_with ((block ∷ []) ∷ []) no_rule (rows EndingBlock) with_block_firsts after_stmt_block
 
 abbrev pub stmt_block_entry : Entry
 stmt_block_entry =
-    nodes_of (by_expr false true 1 (block ∷ [])) stmt_block_rows with_block_firsts after_stmt_block
+    nodes_of (by_expr false true 1 (block ∷ [])) (rows StmtBlock) with_block_firsts after_stmt_block
 
 -- statements, in a block and in a macro
 abbrev pub stmt_read_by : Rule → List Outcome
@@ -97,7 +97,7 @@ stmt_entry =
 abbrev pub empty_stmt_entry : Entry
 empty_stmt_entry =
     record {
-      rows = rows_of empty_stmt_rows;
+      rows = rows_of (rows EmptyStmt);
       firsts = kinds_only (SEMICOLON ∷ []);
       follows = anything;
       is_node = false;
@@ -140,3 +140,6 @@ front_stmt_entry = front_stmts (each_under EXPR_STMT tail_rows) front_stmt_follo
 
 abbrev pub last_stmt_entry : Entry
 last_stmt_entry = front_stmts tail_rows last_stmt_follows
+
+abbrev pub attr_expr_entry : Entry
+attr_expr_entry = nodes_of (by_expr false false 1 (something ∷ [])) (rows AttrExpr) attr_heads (expr_ends false)

@@ -10,7 +10,7 @@ use Rattle.rap_grammar_scripts.specs.declared.rule.Rule.TheVariants as knot
 use Rattle.rap_grammar_table.proofs.Entry.{Entry}
 use Rattle.rap_grammar_table.proofs.Refusal.{Verdict, accepted}
 use Rattle.rap_grammar_table.proofs.Table.{table}
-use Rattle.rap_grammar_table.proofs.StmtHints.{arm_entry, block_entry, block_stmt_entry, empty_stmt_entry, ending_block_entry, if_entry, last_arm_entry, macro_tail_entry, macro_tail_read_by, stmt_block_entry, stmt_entry, stmt_expr_entry, stmt_follows, stmt_list_entry, stmt_read_by, tail_entry, tail_read_by, with_block_entry}
+use Rattle.rap_grammar_table.proofs.StmtHints.{arm_entry, attr_expr_entry, block_entry, block_stmt_entry, empty_stmt_entry, ending_block_entry, if_entry, last_arm_entry, macro_tail_entry, macro_tail_read_by, stmt_block_entry, stmt_entry, stmt_expr_entry, stmt_follows, stmt_list_entry, stmt_read_by, tail_entry, tail_read_by, with_block_entry}
 use Rattle.rap_grammar_table.specs.Table.{Items}
 use Rattle.rap_grammar_table.proofs.Walk.{all_accepted, reads_row}
 use Rattle.rap_grammar_table.proofs.Ways.{some_outcome}
@@ -104,34 +104,34 @@ in_macro : (e : Entry) → InMacro e → (r : Rule) → some_outcome (macro_tail
 in_macro e a (knot.Stmt semicolon.Optional) h = a
 in_macro e a r h = absurd cc
 
--- Among the statements the items, which stand behind sixteen rows, are read alike in both.
+-- Among the statements the items, which stand behind forty-two rows, are read alike in both.
 abbrev stmt_rows : List Items
 stmt_rows = stmt_entry.rows
 
 abbrev reads_stmt : Semicolon → Items → Verdict
 reads_stmt semi row = reads_row table stmt_follows (stmt semi) (something ∷ []) row
 
-stmt_items_read : (semi : Semicolon) → all_accepted (reads_stmt semi) (drop 16 stmt_rows) ≡ accepted
+stmt_items_read : (semi : Semicolon) → all_accepted (reads_stmt semi) (drop 42 stmt_rows) ≡ accepted
 unfolding scripts tests
 stmt_items_read semi = refl
 
-in_block_read : all_accepted (reads_stmt semicolon.Required) (taking 16 stmt_rows) ≡ accepted
+in_block_read : all_accepted (reads_stmt semicolon.Required) (taking 42 stmt_rows) ≡ accepted
 unfolding scripts tests
 in_block_read = refl
 
-in_macro_read : all_accepted (reads_stmt semicolon.Optional) (taking 16 stmt_rows) ≡ accepted
+in_macro_read : all_accepted (reads_stmt semicolon.Optional) (taking 42 stmt_rows) ≡ accepted
 unfolding scripts tests
 in_macro_read = refl
 
 stmts_in_block : InBlock stmt_entry
 unfolding script_of
 stmts_in_block =
-    in_parts (reads_stmt semicolon.Required) 16 stmt_rows in_block_read (stmt_items_read semicolon.Required)
+    in_parts (reads_stmt semicolon.Required) 42 stmt_rows in_block_read (stmt_items_read semicolon.Required)
 
 stmts_in_macro : InMacro stmt_entry
 unfolding script_of
 stmts_in_macro =
-    in_parts (reads_stmt semicolon.Optional) 16 stmt_rows in_macro_read (stmt_items_read semicolon.Optional)
+    in_parts (reads_stmt semicolon.Optional) 42 stmt_rows in_macro_read (stmt_items_read semicolon.Optional)
 
 pub stmts : EntryChecked table stmt_entry
 stmts =
@@ -190,3 +190,16 @@ macro_tails_read = refl
 pub macro_tails : EntryChecked table macro_tail_entry
 macro_tails =
     record { reads = in_macro macro_tail_entry macro_tails_read; begins = refl; followed = refl; nodes = λ h. refl }
+
+attr_exprs_read : all_accepted (is_read table attr_expr_entry (expr_rule false false 1)) attr_expr_entry.rows ≡ accepted
+unfolding scripts tests
+attr_exprs_read = refl
+
+pub attr_exprs : EntryChecked table attr_expr_entry
+attr_exprs =
+    record {
+      reads = read_by_expr table attr_expr_entry false false 1 (something ∷ []) attr_exprs_read;
+      begins = refl;
+      followed = refl;
+      nodes = λ h. refl;
+    }

@@ -13,6 +13,7 @@ use Rattle.rap_grammar_table.specs.Known.{Place, never, anything}
 use Rattle.rap_grammar_table.specs.Notation.{those, up_to, of_kinds}
 use Rattle.rap_grammar_table.specs.Rows.{rows}
 use Rattle.rap_grammar_table.specs.SharedRows.{literals, path_names, use_names, bound_kinds, plus_follows, symbol_kinds, type_follows}
+use Rattle.rap_grammar_table.specs.PatternRows.{global_colon}
 use Rattle.rap_grammar_table.specs.TypeRows.{args_rows, expr_path_rows, anchor_trait_rows, param_name_rows, fn_pointer_params_rows, type_rows, plain_type_rows, type_before_plus_rows, symbol_type_rows}
 
 -- what an argument begins with
@@ -44,7 +45,7 @@ use_path_entry =
 
 abbrev pub global_path_entry : Entry
 global_path_entry =
-    text (rows GlobalPath) global_heads plus_follows
+    text (rows GlobalPath) global_heads ((of_kinds (FOR_KW ∷ []) ∷ []) ∷ plus_follows)
 
 abbrev pub anchored_path_entry : Entry
 anchored_path_entry =
@@ -106,13 +107,14 @@ param_name_read_by r = []
 abbrev pub after_colon : List ℕ
 after_colon = UNDERSCORE ∷ LIFETIME_IDENT ∷ L_PAREN ∷ (symbol_kinds ++ path_names)
 
+-- the colon behind a name, before a type
+abbrev pub name_colons : List (List Place)
+name_colons = (of_kinds (COLON ∷ []) ∷ of_kinds after_colon ∷ []) ∷ global_colon ∷ []
+
 abbrev pub param_name_entry : Entry
 param_name_entry =
     read_text param_name_read_by param_name_rows
-    ((of_names (IDENT ∷ []) ∷ of_kinds (COLON ∷ []) ∷ of_kinds after_colon ∷ [])
-    ∷ (of_kinds (UNDERSCORE ∷ []) ∷ of_kinds (COLON ∷ []) ∷ of_kinds after_colon ∷ [])
-    ∷ [])
-    ((of_kinds (COLON ∷ []) ∷ of_kinds after_colon ∷ []) ∷ [])
+    (behind (of_names (IDENT ∷ [])) name_colons ++ behind (of_kinds (UNDERSCORE ∷ [])) name_colons) name_colons
 
 abbrev pub fn_pointer_params_entry : Entry
 fn_pointer_params_entry =
@@ -128,7 +130,7 @@ abbrev pub trait_ref_entry : Entry
 trait_ref_entry =
     read_text type_read_by (rows TraitRef)
     ((of_names path_names ∷ of_kinds (L_ANGLE ∷ L_PAREN ∷ FOR_KW ∷ []) ∷ []) ∷
-    behind (of_names path_names) (colons ((of_kinds (L_ANGLE ∷ L_PAREN ∷ path_names) ∷ []) ∷ [])))
+    (behind (of_names path_names) (colons ((of_kinds (L_ANGLE ∷ L_PAREN ∷ path_names) ∷ []) ∷ [])) ++ global_heads))
     ((of_kinds (FOR_KW ∷ []) ∷ []) ∷ [])
 
 abbrev pub plain_read_by : Rule → List Outcome

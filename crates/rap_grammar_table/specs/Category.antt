@@ -138,3 +138,8 @@ pub data Category : Type 0 where
   FrontStmt : Category
   LastStmt : Category
   RecordValue : Category
+  -- An expression with attributes before it; the type of a cast behind which nothing comes.
+  AttrExpr : Category
+  LastCastTy : Category
+  -- A name for the rest of a slice, with a `..` behind it.
+  NamedRest : Category

@@ -1,22 +1,23 @@
 -- The rows of expressions.
-use Rattle.std.specs.Prelude.{ℕ, ◌==◌, Bool, true, false, List, [], ◌∷◌, ◌++◌}
-use Rattle.rap_base.specs.NodeKind.{ARG_LIST, ARRAY_EXPR, ARRAY_TYPE, AWAIT_EXPR, BECOME_EXPR, BLOCK_EXPR, BREAK_EXPR, CALL_EXPR, CLOSURE_EXPR, CONST_ARG, CONTINUE_EXPR, FIELD_EXPR, GENERIC_ARG_LIST, INDEX_EXPR, INFER_TYPE, LET_EXPR, MACRO_CALL, MACRO_EXPR, METHOD_CALL_EXPR, NAME_REF, NEVER_TYPE, PARAM, PARAM_LIST, PAREN_EXPR, PAREN_TYPE, PATH, PATH_EXPR, PATH_SEGMENT, PATH_TYPE, PREFIX_EXPR, PTR_TYPE, RANGE_EXPR, RECORD_EXPR, RECORD_EXPR_FIELD, RECORD_EXPR_FIELD_LIST, REF_EXPR, REF_TYPE, RETURN_EXPR, SLICE_TYPE, TRY_EXPR, TUPLE_EXPR, TUPLE_TYPE, UNDERSCORE_EXPR, YIELD_EXPR}
+use Rattle.std.specs.Prelude.{ℕ, Bool, true, false, List, [], ◌∷◌, ◌++◌}
+use Rattle.rap_base.specs.NodeKind.{ARRAY_EXPR, ARRAY_TYPE, AWAIT_EXPR, BECOME_EXPR, BLOCK_EXPR, BREAK_EXPR, CALL_EXPR, CLOSURE_EXPR, CONST_ARG, CONTINUE_EXPR, FIELD_EXPR, GENERIC_ARG_LIST, INDEX_EXPR, INFER_TYPE, LET_EXPR, MACRO_CALL, MACRO_EXPR, METHOD_CALL_EXPR, NAME_REF, NEVER_TYPE, PARAM, PARAM_LIST, PAREN_EXPR, PAREN_TYPE, PATH, PATH_EXPR, PATH_SEGMENT, PATH_TYPE, PREFIX_EXPR, PTR_TYPE, RANGE_EXPR, RECORD_EXPR, RECORD_EXPR_FIELD, RECORD_EXPR_FIELD_LIST, REF_EXPR, REF_TYPE, RETURN_EXPR, SLICE_TYPE, TRY_EXPR, TUPLE_EXPR, TUPLE_TYPE, UNDERSCORE_EXPR, YIELD_EXPR}
 use Rattle.rap_base.specs.TokenKind.{IDENT, SEMICOLON, COMMA, COLON, COLON2, EQ, L_PAREN, R_PAREN, L_BRACK, R_BRACK, L_CURLY, R_CURLY, L_ANGLE, R_ANGLE, AMP, STAR, BANG, MINUS, PIPE, DOT, DOT2, QUESTION, UNDERSCORE, LIFETIME_IDENT, INT_NUMBER, ASYNC_KW, AWAIT_KW, BECOME_KW, BREAK_KW, CONST_KW, CONTINUE_KW, LET_KW, MOVE_KW, MUT_KW, RAW_KW, RETURN_KW, YIELD_KW}
-use Rattle.rap_grammar_scripts.specs.Words.{next_is}
+use Rattle.rap_grammar_scripts.specs.Words.{is_at, next_is}
 use Rattle.rap_grammar_table.specs.AttributeRows.{tree_in}
-use Rattle.rap_grammar_table.specs.Category.{Ty, PlainTy, Argument, Expr, PlainAtom, ElsePrefixed, StmtList, Pattern, SinglePattern, AtomPath, RoundTree, ArgList, NameExpr, CastTy, CastPath, WithBlock, Atom, Operand, Prefixed, StmtPrefixed, OpenAtom, OpenPrefixed, RecordValue, Assigned, WithCast, And, Category, Or}
+use Rattle.rap_grammar_table.specs.Category.{Ty, PlainTy, Argument, Expr, AttrExpr, PlainAtom, ElsePrefixed, StmtList, Pattern, SinglePattern, AtomPath, RoundTree, ArgList, NameExpr, CastTy, CastPath, WithBlock, Atom, Operand, Prefixed, StmtPrefixed, OpenAtom, OpenPrefixed, RecordValue, Assigned, WithCast, And, Category, Or}
 use Rattle.rap_grammar_table.specs.SharedRows.{attrs, lifetime, literal, name_ref, path_names}
 use Rattle.rap_grammar_table.specs.Notation.{Part, ◌⊳◌, t, ts, weak, op, c, node, opt, either, commas, commas_last, alone, guard, turn, around}
 use Rattle.rap_grammar_table.specs.Operators.{all_turns, and_open, assign_turns, behind, binary_cast, cast_turns, fresh, levels, range_turn, range_with_end, tighter}
 use Rattle.rap_grammar_table.specs.TypeRows.{anchored_path, fn_pointer, global_path, named_paths, ret}
 
+-- a value in a list, which may have attributes
+abbrev pub value : Part
+value = either (c Expr) (c AttrExpr)
+
 abbrev pub round_tree_rows : List Part
 round_tree_rows = tree_in L_PAREN R_PAREN ∷ tree_in L_BRACK R_BRACK ∷ []
 
 -- The arguments of a call; and a name that is the value of its field too.
-abbrev pub arg_list_rows : List Part
-arg_list_rows = node ARG_LIST (t L_PAREN ⊳ commas (c Expr) ⊳ t R_PAREN) ∷ []
-
 abbrev pub name_expr_rows : List Part
 name_expr_rows = node PATH_EXPR (node PATH (node PATH_SEGMENT (name_ref (IDENT ∷ [])))) ∷ []
 
@@ -25,7 +26,7 @@ abbrev pub record_field : Part
 record_field =
     node RECORD_EXPR_FIELD
     (attrs ⊳
-    either (name_ref (IDENT ∷ INT_NUMBER ∷ []) ⊳ t COLON ⊳ guard (next_is COLON) ⊳ c Expr) (c NameExpr))
+    either (name_ref (IDENT ∷ INT_NUMBER ∷ []) ⊳ guard (is_at COLON2) ⊳ t COLON ⊳ c Expr) (c NameExpr))
 
 abbrev pub record_values : Part
 record_values =
@@ -43,9 +44,9 @@ plain_atoms =
     ∷ node MACRO_EXPR (node MACRO_CALL (c AtomPath ⊳ t BANG ⊳ c RoundTree))
     ∷ node PAREN_EXPR (t L_PAREN ⊳ c Expr ⊳ t R_PAREN)
     ∷ node TUPLE_EXPR (t L_PAREN ⊳ t R_PAREN)
-    ∷ node TUPLE_EXPR (t L_PAREN ⊳ c Expr ⊳ t COMMA ⊳ commas (c Expr) ⊳ t R_PAREN)
+    ∷ node TUPLE_EXPR (t L_PAREN ⊳ value ⊳ t COMMA ⊳ commas value ⊳ t R_PAREN)
     ∷ node ARRAY_EXPR (t L_BRACK ⊳ t R_BRACK)
-    ∷ node ARRAY_EXPR (t L_BRACK ⊳ c Expr ⊳ opt (t COMMA ⊳ commas (c Expr)) ⊳ t R_BRACK)
+    ∷ node ARRAY_EXPR (t L_BRACK ⊳ value ⊳ opt (t COMMA ⊳ commas value) ⊳ t R_BRACK)
     ∷ node ARRAY_EXPR (t L_BRACK ⊳ c Expr ⊳ t SEMICOLON ⊳ c Expr ⊳ t R_BRACK)
     ∷ node UNDERSCORE_EXPR (t UNDERSCORE)
     ∷ node CONTINUE_EXPR (t CONTINUE_KW ⊳ opt lifetime)
@@ -74,15 +75,29 @@ field_part = t DOT ⊳ name_ref path_names
 abbrev pub number_part : Part
 number_part = t DOT ⊳ node NAME_REF (t INT_NUMBER)
 
+abbrev pub index_part : Part
+index_part = t L_BRACK ⊳ c Expr ⊳ t R_BRACK
+
 abbrev pub postfixes : Part
 postfixes =
     turn (1 ∷ []) CALL_EXPR (c ArgList) 1 ⊳
-    turn (0 ∷ 1 ∷ []) INDEX_EXPR (t L_BRACK ⊳ c Expr ⊳ t R_BRACK) 1 ⊳
+    turn (0 ∷ 1 ∷ []) INDEX_EXPR index_part 1 ⊳
     turn (0 ∷ 1 ∷ []) TRY_EXPR try_part 1 ⊳
     turn (0 ∷ 1 ∷ []) METHOD_CALL_EXPR method_part 1 ⊳
     turn (0 ∷ 1 ∷ []) AWAIT_EXPR await_part 1 ⊳
     turn (0 ∷ 1 ∷ []) FIELD_EXPR field_part 0 ⊳
     turn (0 ∷ 1 ∷ []) FIELD_EXPR number_part 1
+
+-- What is the outermost node where something follows an operand directly, by what it follows.
+abbrev pub chained : Part → List Part
+chained chain =
+    node CALL_EXPR (c (Atom false) ⊳ c ArgList)
+    ∷ node INDEX_EXPR (chain ⊳ index_part)
+    ∷ node TRY_EXPR (chain ⊳ try_part)
+    ∷ node METHOD_CALL_EXPR (chain ⊳ method_part)
+    ∷ node AWAIT_EXPR (chain ⊳ await_part)
+    ∷ node FIELD_EXPR (chain ⊳ either field_part number_part)
+    ∷ []
 
 -- an operator before an operand
 abbrev pub ref_before : Category → Part
@@ -123,7 +138,7 @@ block_part = node BLOCK_EXPR (c StmtList)
 
 -- Jumps and closures.
 abbrev pub closure_param : Part
-closure_param = node PARAM (attrs ⊳ c SinglePattern ⊳ opt (t COLON ⊳ guard (next_is COLON) ⊳ c Ty))
+closure_param = node PARAM (attrs ⊳ c SinglePattern ⊳ opt (guard (is_at COLON2) ⊳ t COLON ⊳ c Ty))
 
 abbrev pub open_atoms : List Part
 open_atoms =

@@ -1,5 +1,5 @@
 -- The rows of items.
-use Rattle.std.specs.Prelude.{ℕ, true, List, [], ◌∷◌, ◌++◌, ◌==◌, not, Option, Some, map}
+use Rattle.std.specs.Prelude.{ℕ, List, [], ◌∷◌, ◌++◌, ◌==◌, not, Option, Some, map}
 use Rattle.rap_base.specs.KeywordTable.{contextual_ever}
 use Rattle.rap_base.specs.NodeKind.{CONST, CONST_ARG, ENUM, FN, ITEM_LIST, MODULE, NAME, NAME_REF, PARAM, PARAM_LIST, PATH, PATH_SEGMENT, RECORD_FIELD, RECORD_FIELD_LIST, SELF_PARAM, STATIC, STRUCT, TUPLE_FIELD, TUPLE_FIELD_LIST, TYPE_ALIAS, VARIANT, VARIANT_LIST, VISIBILITY, VISIBILITY_INNER, RENAME, USE, USE_TREE, USE_TREE_LIST, EXTERN_CRATE, EXTERN_BLOCK, EXTERN_ITEM_LIST, ASSOC_ITEM_LIST, MACRO_DEF, MACRO_RULES, MACRO_CALL, UNION, TRAIT, IMPL}
 use Rattle.rap_base.specs.TokenKind.{DOT3, AUTO_KW, DEFAULT_KW, L_BRACK, R_BRACK, EOF, IDENT, SEMICOLON, COMMA, COLON, COLON2, EQ, L_PAREN, R_PAREN, L_CURLY, R_CURLY, AMP, UNDERSCORE, ASYNC_KW, CONST_KW, CRATE_KW, ENUM_KW, EXTERN_KW, FN_KW, IN_KW, MOD_KW, MUT_KW, PUB_KW, SELF_KW, STATIC_KW, STRUCT_KW, SUPER_KW, TYPE_KW, UNSAFE_KW, AS_KW, STAR, BANG, L_ANGLE, UNION_KW, USE_KW, TRAIT_KW, IMPL_KW, FOR_KW, MACRO_KW, MACRO_RULES_KW, SAFE_KW, POUND, R_ANGLE, LIFETIME_IDENT}
@@ -56,7 +56,7 @@ tuple_fields =
 
 -- the parameters of a function
 abbrev pub param : Part
-param = node PARAM (attrs ⊳ either (c ParamPattern ⊳ t COLON ⊳ either (guard (next_is COLON) ⊳ c Ty) (op DOT3)) (op DOT3))
+param = node PARAM (attrs ⊳ either (c ParamPattern ⊳ guard (is_at COLON2) ⊳ t COLON ⊳ either (c Ty) (op DOT3)) (op DOT3))
 
 abbrev pub self_name : Part
 self_name = node NAME (t SELF_KW)
@@ -65,7 +65,7 @@ abbrev pub self_param : Part
 self_param =
     node SELF_PARAM
     (attrs ⊳
-    either (opt (t MUT_KW) ⊳ self_name ⊳ opt (t COLON ⊳ guard (is_at COLON2) ⊳ c Ty)) (t AMP ⊳ opt lifetime ⊳ opt (t MUT_KW) ⊳ self_name))
+    either (opt (t MUT_KW) ⊳ self_name ⊳ opt (guard (is_at COLON2) ⊳ t COLON ⊳ c Ty)) (t AMP ⊳ opt lifetime ⊳ opt (t MUT_KW) ⊳ self_name))
 
 abbrev pub fn_params_rows : List Part
 fn_params_rows =

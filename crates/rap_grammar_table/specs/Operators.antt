@@ -3,7 +3,7 @@ use Rattle.std.specs.Prelude.{ℕ, Bool, true, false, List, [], ◌∷◌, ◌++
 use Rattle.rap_base.specs.NodeKind.{BIN_EXPR, CAST_EXPR, RANGE_EXPR}
 use Rattle.rap_base.specs.TokenKind.{EOF, SEMICOLON, COMMA, R_PAREN, R_BRACK, L_CURLY, R_CURLY, L_ANGLE, R_ANGLE, AMP, AMP2, AMPEQ, CARET, CARETEQ, DOT2, DOT2EQ, EQ, EQ2, GTEQ, LTEQ, MINUS, MINUSEQ, NEQ, PERCENT, PERCENTEQ, PIPE, PIPE2, PIPEEQ, PLUS, PLUSEQ, SHL, SHLEQ, SHR, SHREQ, SLASH, SLASHEQ, STAR, STAREQ, AS_KW, WHERE_KW}
 use Rattle.rap_grammar_scripts.specs.Words.{is_at, next_is}
-use Rattle.rap_grammar_table.specs.Category.{Level, Or, And, Comparison, BitOr, BitXor, BitAnd, Shift, Sum, Product, Category, CastTy, Closed, Expr, OpenAnd, OpenOr, RangeEnd, WithCast}
+use Rattle.rap_grammar_table.specs.Category.{Level, Or, And, Comparison, BitOr, BitXor, BitAnd, Shift, Sum, Product, Category, CastTy, LastCastTy, Closed, Expr, OpenAnd, OpenOr, RangeEnd, WithCast}
 use Rattle.rap_grammar_table.specs.Known.{Place}
 use Rattle.rap_grammar_table.specs.Notation.{Part, ◌⊳◌, t, op, c, either, guard, turn, of_kinds}
 
@@ -153,6 +153,10 @@ range_with_end forbid = either (op DOT2) (op DOT2EQ) ⊳ no_brace forbid ⊳ c (
 abbrev pub range_turn : Bool → Part
 range_turn forbid = turn (all_from Or) RANGE_EXPR (range_with_end forbid) closing
 
+-- a cast to any type, behind which nothing comes
+abbrev pub last_cast : Part
+last_cast = turn (fresh ∷ behind_cast ∷ []) CAST_EXPR (t AS_KW ⊳ c LastCastTy) closing
+
 abbrev pub and_open : Part
 and_open = turn (all_from And) BIN_EXPR (op AMP2 ⊳ c OpenAnd) closing
 
@@ -166,4 +170,4 @@ assign_turns category =
     turn (up_from Or) BIN_EXPR (angled_assignment ⊳ c category) closing
 
 abbrev pub all_turns : Part
-all_turns = cast_turns false levels ⊳ range_turn false ⊳ and_open ⊳ or_open ⊳ assign_turns Expr
+all_turns = cast_turns false levels ⊳ range_turn false ⊳ and_open ⊳ or_open ⊳ assign_turns Expr ⊳ last_cast

@@ -1,9 +1,10 @@
 -- What stands in many rows.
-use Rattle.std.specs.Prelude.{ℕ, ◌+◌, nat_lt, Bool, true, false, List, [], ◌∷◌, ◌++◌}
+use Rattle.std.specs.Prelude.{ℕ, ◌+◌, List, [], ◌∷◌, ◌++◌}
 use Rattle.rap_base.specs.NodeKind.{NAME, NAME_REF, LIFETIME, ABI, LITERAL, PREFIX_EXPR, PATH_EXPR, PATH, PATH_SEGMENT, CONST_ARG, MACRO_CALL}
 use Rattle.rap_base.specs.TokenKind.{EOF, IDENT, SEMICOLON, COMMA, COLON, COLON2, EQ, L_PAREN, R_PAREN, L_BRACK, R_BRACK, L_CURLY, R_CURLY, L_ANGLE, R_ANGLE, AMP, STAR, BANG, MINUS, PIPE, PLUS, TILDE, QUESTION, LIFETIME_IDENT, STRING, TRUE_KW, FALSE_KW, INT_NUMBER, FLOAT_NUMBER, BYTE, CHAR, BYTE_STRING, C_STRING, AS_KW, ASYNC_KW, CONST_KW, CRATE_KW, DYN_KW, EXTERN_KW, FN_KW, FOR_KW, IMPL_KW, SELF_KW, SELF_TYPE_KW, SUPER_KW, UNSAFE_KW, USE_KW, WHERE_KW}
 use Rattle.rap_grammar_table.specs.Category.{Attr, Block, ExprPath, InnerAttr, TokenTree}
 use Rattle.rap_grammar_table.specs.Known.{Place}
+use Rattle.rap_grammar_table.specs.Table.{Items, begin}
 use Rattle.rap_grammar_table.specs.Notation.{Part, ◌⊳◌, t, ts, names, op, c, node, opt, either, many, fold, of_kinds}
 
 -- names
@@ -52,6 +53,14 @@ macro_call path = node MACRO_CALL (path ⊳ t BANG ⊳ c TokenTree)
 -- attributes before what they are of
 abbrev pub attrs : Part
 attrs = many (c Attr)
+
+-- a node with attributes before what else it has
+abbrev pub attributed_items : Items → Items
+attributed_items (begin is) = begin (c Attr (attrs is))
+attributed_items is = is
+
+abbrev pub attributed : Part → Part
+attributed a r = attributed_items (a r)
 
 abbrev pub inner_attrs : Part
 inner_attrs = many (c InnerAttr)

@@ -135,7 +135,7 @@ abbrev pub fn_pointer_param : List (List Place) → Part
 fn_pointer_param ways =
     node PARAM
     (attrs ⊳
-    either (guard_before ways has_name ⊳ c Ty) (either (c ParamName ⊳ t COLON ⊳ guard (is_at COLON2) ⊳ c Ty) (op DOT3)))
+    either (guard_before ways has_name ⊳ c Ty) (either (c ParamName ⊳ guard (is_at COLON2) ⊳ t COLON ⊳ c Ty) (op DOT3)))
 
 abbrev pub fn_pointer_params_rows : List Part
 fn_pointer_params_rows =

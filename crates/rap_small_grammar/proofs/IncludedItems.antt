@@ -8,7 +8,7 @@ use Rattle.rap_grammar_scripts.proofs.Forests.{⧺-assoc}
 use Rattle.rap_small_grammar.specs.Derives.{Is, Writes, maybe_none, maybe_some, visibility_pub, name_given, bind_name}
 use Rattle.rap_small_grammar.specs.Derives as old
 use Rattle.rap_small_grammar.proofs.Begins.{First}
-use Rattle.rap_small_grammar.proofs.IncludedLists.{Optional, missing, there, WithCommas, last_one, comma_behind, comma_and, Stands, listed, opt_listed, not_next_in}
+use Rattle.rap_small_grammar.proofs.IncludedLists.{Optional, missing, there, WithCommas, last_one, comma_behind, comma_and, Stands, listed, opt_listed, no_colons}
 use Rattle.rap_small_grammar.proofs.IncludedRows.{Row, Turns, done, opens, closes, one_way, other_way, ends_with, repeats, none_comes, groups, groups_last, no_group, guards, makes, puts, puts_first, puts_last, puts_alone, puts_token, puts_name, puts_operator}
 use Rattle.rap_small_grammar.proofs.IncludedTypes.{TypeSo}
 use Rattle.rap_grammar_ends.proofs.Ways.{none-⧺}
@@ -53,10 +53,10 @@ pub data ParamSo : List Record → Forest → Type 0 where
 
 param_row : {r : Items} {x y t : Forest} {xs : List Forest} {ks js : List Record} → ParamSo ks t →
     Row r (x ⧺ t) xs js y → Row (rows.param r) x xs (ks ++ js) y
-param_row (param_in d o e f) r =
+param_row {js = ms} (param_in {a = b} d o e f) r =
     rw append_assoc
     (opens (none_comes (one_way (puts_first (param_pattern d)
-    (puts_token o (one_way (guards (λ l. not_next_in COLON refl f _ l) (puts e.any (closes r)))))))))
+    (guards (λ l. no_colons b refl f ms l) (puts_token o (one_way (puts e.any (closes r)))))))))
 
 param_last : {ks : List Record} {t : Forest} → ParamSo ks t → Row (rows.param nil) none [] ks t
 param_last {ks = ks} {t = t} p =

@@ -1,6 +1,8 @@
 -- What may be missing, any number of something, and lists with commas are in the rows of the table.
-use Rattle.std.proofs.Common.{◌≡◌, ℕ, false, List, [], ◌∷◌, ◌++◌, append_assoc, append-nil}
-use Rattle.rap_base.specs.TokenKind.{COMMA}
+use Rattle.std.proofs.Common.{◌≡◌, ◌==◌, ℕ, false, List, [], ◌∷◌, ◌++◌, append_assoc, append-nil, refl}
+use Rattle.rap_base.specs.TokenKind.{COLON, COMMA}
+use Rattle.rap_events.proofs.Truth.{and_false}
+use Rattle.rap_events.specs.Composite.{begins_with}
 use Rattle.rap_events.specs.Forest.{Forest, none, leaf, ◌⧺◌}
 use Rattle.rap_events.specs.Record.{Record}
 use Rattle.rap_grammar_scripts.specs.Test.{holds}
@@ -61,6 +63,8 @@ pub not_next : {c : Category} {ks : List Record} (k : ℕ) → Begins c k ≡ fa
     holds (next_is k) (ks ++ l) ≡ false
 not_next {c = c} k h f l = rw f.is (differ (Begins c) f.r.kind k f.kind h)
 
-pub not_next_in : {c : Category} {ks : List Record} (k : ℕ) → Begins c k ≡ false → First c ks → (js l : List Record) →
-    holds (next_is k) ((ks ++ js) ++ l) ≡ false
-not_next_in {c = c} k h f js l = rw f.is (differ (Begins c) f.r.kind k f.kind h)
+-- a colon before what begins so is none of a `::`
+pub no_colons : {c : Category} {ks : List Record} (a : Record) → Begins c COLON ≡ false → First c ks → (js l : List Record) →
+    begins_with (COLON ∷ COLON ∷ []) (a ∷ ((ks ++ js) ++ l)) ≡ false
+no_colons {c = c} a h f js l =
+    rw (f.is, differ (Begins c) f.r.kind COLON f.kind h, and_false a.joint, and_false (a.kind == COLON)) refl

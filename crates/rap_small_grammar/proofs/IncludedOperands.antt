@@ -16,7 +16,7 @@ use Rattle.rap_grammar_table.specs.Rows.{grammar}
 use Rattle.rap_grammar_table.proofs.Known.{by_or}
 use Rattle.rap_grammar_table.specs.Category.{Category, ArgList, Atom, Expr, Operand, Prefixed, StmtOperand, StmtPrefixed, WithBlock}
 use Rattle.rap_grammar_table.specs.SharedRows.{literals}
-use Rattle.rap_grammar_table.specs.ExprRows.{postfixes, prefix_before, ref_before}
+use Rattle.rap_grammar_table.specs.ExprRows.{postfixes, prefix_before, ref_before, value}
 use Rattle.rap_grammar_table.specs.Known.{among}
 use Rattle.rap_grammar_table.specs.Notation.{t, c, ◌⊳◌, around}
 use Rattle.rap_grammar_table.specs.Table.{row_at, Items, nil, HasWay, first_turn, other_turn, a_token}
@@ -49,9 +49,12 @@ pub paren_atom : {a b : Record} {ks : List Record} {t : Forest} → Is a L_PAREN
 paren_atom o d e = by_row_of 3 refl refl (opens (puts_token o (puts d (puts_token e (closes done)))))
 
 -- the arguments of a call
-arguments_stand : Stands (Makes Expr) (c Expr (t COMMA nil)) (c Expr nil)
+arguments_stand : Stands (Makes Expr) (value (t COMMA nil)) (value nil)
 arguments_stand =
-    record { last = λ d. one_way (puts_alone d done); before_comma = λ d o. puts_first d (puts_token o done) }
+    record {
+      last = λ d. one_way (one_way (puts_alone d done));
+      before_comma = λ d o. one_way (puts_first d (puts_token o done));
+    }
 
 pub arguments : {a b : Record} {ks : List Record} {t : Forest} → Is a L_PAREN →
     Optional (WithCommas (Makes Expr)) ks t → Is b R_PAREN →

@@ -1,16 +1,16 @@
 -- Statements, blocks, conditions and loops of the core grammar are in the table.
 use Rattle.std.proofs.Common.{◌≡◌, ◌≢◌, ℕ, List, [], ◌∷◌, ◌++◌, Some, refl, append_assoc, append-nil}
 use Rattle.rap_base.specs.NodeKind.{BLOCK_EXPR, EXPR_STMT, IF_EXPR, LET_STMT, LOOP_EXPR, STMT_LIST, WHILE_EXPR}
-use Rattle.rap_base.specs.TokenKind.{COLON, ELSE_KW, EQ, IF_KW, L_CURLY, LET_KW, LOOP_KW, R_CURLY, SEMICOLON, WHILE_KW}
+use Rattle.rap_base.specs.TokenKind.{COLON, COLON2, ELSE_KW, EQ, IF_KW, L_CURLY, LET_KW, LOOP_KW, R_CURLY, SEMICOLON, WHILE_KW}
 use Rattle.rap_events.specs.Forest.{Forest, none, node, leaf, ◌⧺◌}
 use Rattle.rap_events.specs.Record.{Record}
 use Rattle.rap_grammar_scripts.proofs.Forests.{⧺-assoc}
-use Rattle.rap_grammar_scripts.specs.Words.{next_is}
+use Rattle.rap_grammar_scripts.specs.Words.{is_at}
 use Rattle.rap_small_grammar.specs.Derives.{Is, bind_name, name_given}
 use Rattle.rap_small_grammar.specs.Derives as old
 use Rattle.rap_small_grammar.proofs.Begins.{First}
 use Rattle.rap_small_grammar.proofs.IncludedExpressions.{Expressed}
-use Rattle.rap_small_grammar.proofs.IncludedLists.{Optional, missing, there, not_next_in}
+use Rattle.rap_small_grammar.proofs.IncludedLists.{Optional, missing, there, no_colons}
 use Rattle.rap_small_grammar.proofs.IncludedRows.{whole, Row, Turns, done, opens, closes, one_way, other_way, ends_with, turns, repeats, none_comes, no_group, guards, folds_up, makes, puts, puts_first, puts_last, puts_alone, puts_token, puts_name}
 use Rattle.rap_small_grammar.proofs.IncludedTypes.{TypeSo}
 use Rattle.rap_grammar_ends.proofs.Ways.{none-⧺}
@@ -20,7 +20,7 @@ use Rattle.rap_grammar_table.specs.Category as categories
 use Rattle.rap_grammar_table.specs.ExprRows.{block_part}
 use Rattle.rap_grammar_table.specs.Notation.{◌⊳◌, t, c, opt, either, guard}
 use Rattle.rap_grammar_table.specs.Operators.{all_turns}
-use Rattle.rap_grammar_table.specs.StmtRows.{if_after, none_before}
+use Rattle.rap_grammar_table.specs.StmtRows.{if_expr}
 use Rattle.rap_grammar_table.specs.Table.{row_at, Items, nil, close, piece, cat, folds}
 use Rattle.rap_grammar_table.specs.Tops.{Makes}
 
@@ -37,11 +37,11 @@ pub data AnnotationSo : List Record → Forest → Type 0 where
       AnnotationSo (a ∷ ks) (leaf none COLON 1 ⧺ u)
 
 annotation_row : {r : Items} {x y u : Forest} {xs : List Forest} {js ms : List Record} → Optional AnnotationSo js u →
-    Row r (x ⧺ u) xs ms y → Row (opt (t COLON ⊳ guard (next_is COLON) ⊳ c categories.Ty) r) x xs (js ++ ms) y
+    Row r (x ⧺ u) xs ms y → Row (opt (guard (is_at COLON2) ⊳ t COLON ⊳ c categories.Ty) r) x xs (js ++ ms) y
 annotation_row missing r = other_way r
-annotation_row {x = x} (there (annotated {u = u} o d f)) r =
-    one_way (puts_token o (guards (λ l. not_next_in COLON refl f _ l)
-    (puts d.any (rw (⧺-assoc x (leaf none COLON 1) u) r))))
+annotation_row {x = x} {ms = ms} (there (annotated {a = b} {u = u} o d f)) r =
+    one_way (guards (λ l. no_colons b refl f ms l)
+    (puts_token o (puts d.any (rw (⧺-assoc x (leaf none COLON 1) u) r))))
 
 pub data ValueSo : List Record → Forest → Type 0 where
   valued : {a : Record} {ks : List Record} {u : Forest} → Is a EQ → Makes Expr ks u →
@@ -164,7 +164,7 @@ else_row {x = x} (there (else_if {x = u} o d)) =
     rw (← (⧺-assoc x (leaf none ELSE_KW 1) u)) (one_way (puts_token o (one_way (puts_last d (closes done)))))
 
 pub data IfSo (ks : List Record) (x : Forest) : Type 0 where
-  if_in : Row (if_after none_before nil) none [] ks x → IfSo ks x
+  if_in : Row (if_expr nil) none [] ks x → IfSo ks x
 
 pub if_of : {a : Record} {ks js is : List Record} {x u v : Forest} → Is a IF_KW → Makes Condition ks x →
     BlockSo js u → Optional ElseSo is v →

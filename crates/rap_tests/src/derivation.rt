@@ -1,4 +1,5 @@
 //! Derivations of the core grammar, and the elements of a tree.
+use crate::places;
 use rap_base::edition::Edition;
 use rap_base::no_memory::NoMemory;
 use rap_base::syntax_kind::SyntaxKind;
@@ -14,15 +15,15 @@ use std::alloc::Global;
 
 // The claims of a file with one module that has no body.
 const MODULE: [Claim; 11] = [
-    Claim::Row(2654, 0, 0),
-    Claim::LastTurn(1753, 0),
-    Claim::Row(2654, 0, 0),
-    Claim::LastTurn(2086, 2),
-    Claim::Row(1654, 0, 0),
-    Claim::Category(28, 3, 0, 3),
-    Claim::Row(1579, 0, 3),
-    Claim::Row(2654, 3, 3),
-    Claim::LastTurn(1579, 7),
+    Claim::Row(places::END, 0, 0),
+    Claim::LastTurn(places::INNER_ATTRIBUTE, 0),
+    Claim::Row(places::END, 0, 0),
+    Claim::LastTurn(places::ATTRIBUTE, 2),
+    Claim::Row(places::VISIBILITY, 0, 0),
+    Claim::Category(places::ITEMS, places::MODULE, 0, 3),
+    Claim::Row(places::ITEM, 0, 3),
+    Claim::Row(places::END, 3, 3),
+    Claim::LastTurn(places::ITEM, 7),
     Claim::OneTurn(6, 8),
     Claim::Row(0, 0, 3),
 ];

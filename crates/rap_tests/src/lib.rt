@@ -23,6 +23,8 @@ mod lexed_str;
 #[cfg(test)]
 mod literals;
 #[cfg(test)]
+mod places;
+#[cfg(test)]
 mod shortcuts;
 #[cfg(test)]
 mod strip;
