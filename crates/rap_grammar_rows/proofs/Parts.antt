@@ -25,19 +25,19 @@ built_at zero (f ∷ fs) (x ∷ xs) (y ∷ ys) (n ∷ ns) a b c d = refl
 built_at (suc p) (f ∷ fs) (x ∷ xs) (y ∷ ys) (n ∷ ns) a b c d =
     built_at p fs xs ys ns (omega arith) (omega arith) (omega arith) (omega arith)
 
-forms_length : length forms ≡ 3287
+forms_length : length forms ≡ 3356
 unfolding forms
 forms_length = refl
 
-firsts_length : length firsts ≡ 3287
+firsts_length : length firsts ≡ 3356
 unfolding firsts
 firsts_length = refl
 
-seconds_length : length seconds ≡ 3287
+seconds_length : length seconds ≡ 3356
 unfolding seconds
 seconds_length = refl
 
-nexts_length : length nexts ≡ 3287
+nexts_length : length nexts ≡ 3356
 unfolding nexts
 nexts_length = refl
 

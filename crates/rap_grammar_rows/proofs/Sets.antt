@@ -55,21 +55,21 @@ places_are : spans_of places place_starts ≡ row_places
 unfolding places place_starts row_places
 places_are = refl
 
-place_starts_length : length place_starts ≡ 133
+place_starts_length : length place_starts ≡ 135
 unfolding place_starts
 place_starts_length = refl
 
-places_length : length row_places ≡ 132
+places_length : length row_places ≡ 134
 unfolding row_places
 places_length = refl
 
-pub places_is : (ms ss r : List ℕ) (n a b : ℕ) → n < 132 → ms ≡ places → ss ≡ place_starts →
+pub places_is : (ms ss r : List ℕ) (n a b : ℕ) → n < 134 → ms ≡ places → ss ≡ place_starts →
     a ≡ get_or ss n 0 → b ≡ get_or ss (n + 1) 0 → r ≡ slice_range ms a b → r ≡ set_in n row_places
 places_is ms ss r n a b h m s f t e =
     let next : n + 1 ≡ suc n = omega arith in
     rw (e, f, t, m, s, next) (span_of places place_starts n (omega (arith, place_starts_length)) ∙ ap (set_in n) places_are)
 
-pub places_past : (n : ℕ) → 132 ≤ n → set_in n row_places ≡ []
+pub places_past : (n : ℕ) → 134 ≤ n → set_in n row_places ≡ []
 places_past n h = past row_places n (omega (arith, places_length))
 
 -- turns by their numbers

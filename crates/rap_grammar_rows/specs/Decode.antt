@@ -92,7 +92,7 @@ parts_of (f ∷ fs) (x ∷ xs) (y ∷ ys) (n ∷ ns) = put_before (form_of f) x 
 
 -- the numbers of the part at a place
 pub record AreAt (place form first second next : ℕ) : Type 0 where
-  pub inside : place < 3287
+  pub inside : place < 3356
   pub form_is : form ≡ get_or forms place 0
   pub first_is : first ≡ get_or firsts place 0
   pub second_is : second ≡ get_or seconds place 0

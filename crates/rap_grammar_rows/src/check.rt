@@ -49,7 +49,7 @@ fn walked(
 fn row_starts(number: usize) -> &'static [u16]
     ensures { result.now ≡ set_in number row_places }
 {
-    if number >= 132 {
+    if number >= 134 {
         return &[];
     }
     let starts = place_starts();

@@ -49,7 +49,7 @@ struct Numbers {
 fn numbers_at(place: usize) -> Option<Numbers>
     ensures { IfSome result (λ r. AreAt place r.form r.first r.second r.next) }
 {
-    if place >= 3287 {
+    if place >= 3356 {
         return None;
     }
     Some(Numbers {
@@ -62,7 +62,7 @@ fn numbers_at(place: usize) -> Option<Numbers>
 
 /// The place so many parts further.
 fn behind(place: usize, further: u16) -> usize
-    requires { place < 3287 }
+    requires { place < 3356 }
     ensures { result ≡ place + 1 + further }
 {
     place + 1 + usize::from(further)

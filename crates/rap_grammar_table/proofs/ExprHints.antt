@@ -11,8 +11,8 @@ use Rattle.rap_grammar_table.proofs.OperatorHints.{atom_kinds, block_kinds, oper
 use Rattle.rap_grammar_table.proofs.SharedHints.{attr_heads, global_heads, plain_firsts}
 use Rattle.rap_grammar_table.proofs.TypeHints.{plain_read_by}
 use Rattle.rap_grammar_table.proofs.Ways.{same_flag}
-use Rattle.rap_grammar_table.specs.Category.{Level, Or, And, Comparison, BitOr, BitXor, BitAnd, Shift, Sum, Product, Atom, BraceTree, Closed, OpenAnd, Prefixed, RangeEnd, RecordValue, StmtPrefixed, WithCast, LastCastTy, ArgList}
-use Rattle.rap_grammar_table.specs.ExprRows.{round_tree_rows, name_expr_rows, plain_atoms, operand_rows, else_rows, stmt_operand_rows, open_atoms, open_prefixed_rows, open_or_rows, expr_rows, without_let, condition_rows, guard_rows, cast_path_rows, cast_type_rows}
+use Rattle.rap_grammar_table.specs.Category.{Level, Or, And, Comparison, BitOr, BitXor, BitAnd, Shift, Sum, Product, Atom, BraceTree, Closed, OpenAnd, Prefixed, RangeEnd, RecordValue, StmtPrefixed, WithCast, LastCastTy, ArgList, Let, NameExpr}
+use Rattle.rap_grammar_table.specs.ExprRows.{round_tree_rows, plain_atoms, operand_rows, else_rows, stmt_operand_rows, open_atoms, open_prefixed_rows, open_or_rows, expr_rows, without_let, condition_rows, guard_rows, cast_path_rows, cast_type_rows}
 use Rattle.rap_grammar_table.specs.Known.{Place, anything}
 use Rattle.rap_grammar_table.specs.Notation.{Part, rows_of, of_kinds}
 use Rattle.rap_grammar_table.specs.Operators.{expr_ends}
@@ -99,7 +99,7 @@ arg_list_entry =
 abbrev pub name_expr_entry : Entry
 name_expr_entry =
     nodes_of (by_expr false false 1 (something ∷ []))
-    name_expr_rows
+    (rows NameExpr)
     ((of_names (IDENT ∷ []) ∷ of_kinds (COMMA ∷ R_CURLY ∷ []) ∷ []) ∷ [])
     ((of_kinds (COMMA ∷ R_CURLY ∷ []) ∷ []) ∷ [])
 
@@ -296,3 +296,8 @@ cast_type_entry =
 
 abbrev pub last_cast_type_entry : Entry
 last_cast_type_entry = nodes_of plain_read_by (rows LastCastTy) plain_firsts (expr_ends false)
+
+abbrev pub let_entry : Bool → Entry
+let_entry forbid =
+    nodes_of (by_expr forbid false (power_behind And) (something ∷ [])) (rows (Let forbid)) (kinds_only (LET_KW ∷ []))
+    (operand_ends forbid ++ places_in false (power_behind And) operators)

@@ -5,7 +5,7 @@ use Rattle.rap_grammar_scripts.specs.Script.{Outcome, something}
 use Rattle.rap_grammar_scripts.specs.declared.arguments.Restrictions.{Restrictions}
 use Rattle.rap_grammar_scripts.specs.declared.rule.Rule.{Rule}
 use Rattle.rap_grammar_scripts.specs.declared.rule.Rule.TheVariants as knot
-use Rattle.rap_grammar_table.proofs.ExprHints.{outcomes_if, by_expr, arg_list_entry, atom_entry, atom_path_entry, brace_tree_entry, cast_path_entry, cast_type_entry, last_cast_type_entry, else_prefixed_entry, else_value_entry, name_expr_entry, open_atom_entry, open_prefixed_entry, operand_entry, plain_atom_entry, prefixed_entry, round_tree_entry, stmt_operand_entry, stmt_prefixed_entry}
+use Rattle.rap_grammar_table.proofs.ExprHints.{outcomes_if, by_expr, arg_list_entry, atom_entry, atom_path_entry, brace_tree_entry, cast_path_entry, cast_type_entry, last_cast_type_entry, let_entry, else_prefixed_entry, else_value_entry, name_expr_entry, open_atom_entry, open_prefixed_entry, operand_entry, plain_atom_entry, prefixed_entry, round_tree_entry, stmt_operand_entry, stmt_prefixed_entry}
 use Rattle.rap_grammar_table.proofs.Entry.{Entry}
 use Rattle.rap_grammar_table.proofs.Refusal.{accepted}
 use Rattle.rap_grammar_table.proofs.Table.{table}
@@ -171,6 +171,32 @@ last_cast_types_read_by r h = absurd cc
 
 pub last_cast_types : EntryChecked table last_cast_type_entry
 last_cast_types = record { reads = last_cast_types_read_by; begins = refl; followed = refl; nodes = λ h. refl }
+
+lets_read : all_accepted (is_read table (let_entry false) (expr_rule false false 5)) (let_entry false).rows ≡ accepted
+unfolding scripts tests
+lets_read = refl
+
+pub lets : EntryChecked table (let_entry false)
+lets =
+    record {
+      reads = read_by_expr table (let_entry false) false false 5 (something ∷ []) lets_read;
+      begins = refl;
+      followed = refl;
+      nodes = λ h. refl;
+    }
+
+lets_forbidden_read : all_accepted (is_read table (let_entry true) (expr_rule true false 5)) (let_entry true).rows ≡ accepted
+unfolding scripts tests
+lets_forbidden_read = refl
+
+pub lets_forbidden : EntryChecked table (let_entry true)
+lets_forbidden =
+    record {
+      reads = read_by_expr table (let_entry true) true false 5 (something ∷ []) lets_forbidden_read;
+      begins = refl;
+      followed = refl;
+      nodes = λ h. refl;
+    }
 
 pub plain_atoms_so : EntryChecked table plain_atom_entry
 plain_atoms_so = record { reads = λ r h. absurd cc; begins = refl; followed = refl; nodes = λ h. refl }

@@ -7,11 +7,12 @@ use Rattle.rap_grammar_scripts.specs.declared.rule.Rule.TheVariants as knot
 use Rattle.rap_grammar_table.proofs.Entry.{Entry, text, read_text, colons, of_names}
 use Rattle.rap_grammar_table.proofs.Evaluate.{behind}
 use Rattle.rap_grammar_table.proofs.SharedHints.{attr_heads, brackets}
-use Rattle.rap_grammar_table.specs.Category.{UseTree}
+use Rattle.rap_grammar_table.specs.Category.{UseTree, RecordField}
 use Rattle.rap_grammar_table.specs.SharedRows.{path_names, use_names}
-use Rattle.rap_grammar_table.specs.ItemRows.{visibility_rows, field_rows, fn_params_rows, variant_rows, use_tree_rows, call_words, item_rows}
+use Rattle.rap_grammar_table.specs.ItemRows.{visibility_rows, fn_params_rows, variant_rows, use_tree_rows, call_words, item_rows}
 use Rattle.rap_grammar_table.specs.Known.{Place, unclear, anything}
 use Rattle.rap_grammar_table.specs.Notation.{Part, of_kinds}
+use Rattle.rap_grammar_table.specs.Rows.{rows}
 
 -- what stands before an item's name
 abbrev pub item_keywords : List ℕ
@@ -26,7 +27,7 @@ visibility_entry =
 
 abbrev pub field_entry : Entry
 field_entry =
-    text field_rows
+    text (rows RecordField)
     ((of_kinds (PUB_KW ∷ IDENT ∷ []) ∷ []) ∷ attr_heads) ((of_kinds (COMMA ∷ R_CURLY ∷ []) ∷ []) ∷ [])
 
 abbrev pub fn_params_entry : Entry

@@ -1,7 +1,7 @@
 -- Written by crates/rap_grammar_rows/rows from Category.antt: an edit here is lost.
 -- Each category stands at its place.
 use Rattle.std.proofs.Common.{◌≡◌, refl, false, true, Some}
-use Rattle.rap_grammar_table.specs.Category.{Category, Ty, PlainTy, TyBeforePlus, AnchorTrait, SymbolTy, Path, PathBeforePlus, UsePath, GlobalPath, AnchoredPath, Args, Argument, Bound, Bounds, GenericParam, Generics, Predicate, Where, ParamName, FnPointerParams, Pattern, Expr, Stmt, Block, Visibility, RecordField, Variant, FnParams, Item, TokenTree, Attr, Meta, Cfg, MacroPath, ExprPath, SimplePath, TraitRef, UseTree, InnerAttr, SinglePattern, PatternPath, RestPattern, ParamPattern, AtomPath, RoundTree, BraceTree, ArgList, NameExpr, CastTy, CastPath, StmtList, If, WithBlock, Arm, LastArm, Atom, Operand, Prefixed, StmtOperand, StmtPrefixed, OpenAtom, OpenPrefixed, Condition, Guard, RangeEnd, Assigned, StmtExpr, StmtBlock, BlockStmt, Tail, Closed, Or, And, Comparison, BitOr, BitXor, BitAnd, Shift, Sum, Product, WithCast, OpenOr, OpenAnd, EndingBlock, EmptyStmt, MacroTail, PlainAtom, ElseValue, ElsePrefixed, RecordFields, Variants, UseTrees, ItemList, AssocItems, ExternItems, RecordValues, MatchArms, FrontStmt, LastStmt, RecordValue, AttrExpr, LastCastTy, NamedRest}
+use Rattle.rap_grammar_table.specs.Category.{Category, Ty, PlainTy, TyBeforePlus, AnchorTrait, SymbolTy, Path, PathBeforePlus, UsePath, GlobalPath, AnchoredPath, Args, Argument, Bound, Bounds, GenericParam, Generics, Predicate, Where, ParamName, FnPointerParams, Pattern, Expr, Stmt, Block, Visibility, RecordField, Variant, FnParams, Item, TokenTree, Attr, Meta, Cfg, MacroPath, ExprPath, SimplePath, TraitRef, UseTree, InnerAttr, SinglePattern, PatternPath, RestPattern, ParamPattern, AtomPath, RoundTree, BraceTree, ArgList, NameExpr, CastTy, CastPath, StmtList, If, WithBlock, Arm, LastArm, Atom, Operand, Prefixed, StmtOperand, StmtPrefixed, OpenAtom, OpenPrefixed, Condition, Guard, RangeEnd, Assigned, StmtExpr, StmtBlock, BlockStmt, Tail, Closed, Or, And, Comparison, BitOr, BitXor, BitAnd, Shift, Sum, Product, WithCast, OpenOr, OpenAnd, EndingBlock, EmptyStmt, MacroTail, PlainAtom, ElseValue, ElsePrefixed, RecordFields, Variants, UseTrees, ItemList, AssocItems, ExternItems, RecordValues, MatchArms, FrontStmt, LastStmt, RecordValue, AttrExpr, LastCastTy, NamedRest, Let}
 use Rattle.rap_grammar_table.specs.Numbers.{categories, category_at, number}
 
 pub at_number : (c : Category) → category_at (number c) categories ≡ Some c
@@ -137,3 +137,5 @@ at_number RecordValue = refl
 at_number AttrExpr = refl
 at_number LastCastTy = refl
 at_number NamedRest = refl
+at_number (Let false) = refl
+at_number (Let true) = refl

@@ -90,11 +90,11 @@ expressions =
       nodes = λ h. refl;
     }
 
-conditions_first : Computed 2 condition_entry true 1
+conditions_first : Computed 3 condition_entry true 1
 unfolding climbing
 conditions_first = record { taken = refl; same = λ o. refl }
 
-conditions_others : OthersSo 2 condition_entry (expr_rule true false 1)
+conditions_others : OthersSo 3 condition_entry (expr_rule true false 1)
 unfolding scripts tests
 conditions_others = refl
 
@@ -103,7 +103,7 @@ conditions =
     record {
       reads =
           read_by_expr table condition_entry true false 1 (something ∷ [])
-          (all_read 2 condition_entry true 1 conditions_first conditions_others);
+          (all_read 3 condition_entry true 1 conditions_first conditions_others);
       begins = refl;
       followed = refl;
       nodes = λ h. refl;
@@ -128,11 +128,11 @@ assigneds =
       nodes = λ h. refl;
     }
 
-guards_first : Computed 1 guard_entry false 1
+guards_first : Computed 2 guard_entry false 1
 unfolding climbing
 guards_first = record { taken = refl; same = λ o. refl }
 
-guards_others : OthersSo 1 guard_entry (expr_rule false false 1)
+guards_others : OthersSo 2 guard_entry (expr_rule false false 1)
 unfolding scripts tests
 guards_others = refl
 
@@ -141,7 +141,7 @@ guards =
     record {
       reads =
           read_by_expr table guard_entry false false 1 (something ∷ [])
-          (all_read 1 guard_entry false 1 guards_first guards_others);
+          (all_read 2 guard_entry false 1 guards_first guards_others);
       begins = refl;
       followed = refl;
       nodes = λ h. refl;

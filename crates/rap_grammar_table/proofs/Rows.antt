@@ -2,13 +2,13 @@
 use Rattle.std.proofs.Common.{false, true, refl}
 use Rattle.rap_events.specs.Forest.{Forest}
 use Rattle.rap_events.specs.Record.{Record}
-use Rattle.rap_grammar_table.specs.Category.{Category, Ty, PlainTy, TyBeforePlus, AnchorTrait, SymbolTy, Path, PathBeforePlus, UsePath, GlobalPath, AnchoredPath, Args, Argument, Bound, Bounds, GenericParam, Generics, Predicate, Where, ParamName, FnPointerParams, Pattern, Expr, Stmt, Block, Visibility, RecordField, Variant, FnParams, Item, TokenTree, Attr, Meta, Cfg, MacroPath, ExprPath, SimplePath, TraitRef, UseTree, InnerAttr, SinglePattern, PatternPath, RestPattern, ParamPattern, AtomPath, RoundTree, BraceTree, ArgList, NameExpr, CastTy, CastPath, StmtList, If, WithBlock, Arm, LastArm, Atom, Operand, Prefixed, StmtOperand, StmtPrefixed, OpenAtom, OpenPrefixed, Condition, Guard, RangeEnd, Assigned, StmtExpr, StmtBlock, BlockStmt, Tail, Closed, WithCast, OpenOr, OpenAnd, EndingBlock, EmptyStmt, MacroTail, PlainAtom, ElseValue, ElsePrefixed, RecordFields, Variants, UseTrees, ItemList, AssocItems, ExternItems, RecordValues, MatchArms, FrontStmt, LastStmt, RecordValue, AttrExpr, LastCastTy, NamedRest}
+use Rattle.rap_grammar_table.specs.Category.{Category, Ty, PlainTy, TyBeforePlus, AnchorTrait, SymbolTy, Path, PathBeforePlus, UsePath, GlobalPath, AnchoredPath, Args, Argument, Bound, Bounds, GenericParam, Generics, Predicate, Where, ParamName, FnPointerParams, Pattern, Expr, Stmt, Block, Visibility, RecordField, Variant, FnParams, Item, TokenTree, Attr, Meta, Cfg, MacroPath, ExprPath, SimplePath, TraitRef, UseTree, InnerAttr, SinglePattern, PatternPath, RestPattern, ParamPattern, AtomPath, RoundTree, BraceTree, ArgList, NameExpr, CastTy, CastPath, StmtList, If, WithBlock, Arm, LastArm, Atom, Operand, Prefixed, StmtOperand, StmtPrefixed, OpenAtom, OpenPrefixed, Condition, Guard, RangeEnd, Assigned, StmtExpr, StmtBlock, BlockStmt, Tail, Closed, WithCast, OpenOr, OpenAnd, EndingBlock, EmptyStmt, MacroTail, PlainAtom, ElseValue, ElsePrefixed, RecordFields, Variants, UseTrees, ItemList, AssocItems, ExternItems, RecordValues, MatchArms, FrontStmt, LastStmt, RecordValue, AttrExpr, LastCastTy, NamedRest, Let}
 use Rattle.rap_grammar_table.specs.Rows.{grammar}
 use Rattle.rap_grammar_table.proofs.Table.{table, entry}
 use Rattle.rap_grammar_table.proofs.AttributeRows.{attributes, conditions as cfg_conditions, macro_paths, metas, token_trees, inner_attributes}
 use Rattle.rap_grammar_table.proofs.ClosedRows.{closed, with_cast}
 use Rattle.rap_grammar_table.proofs.Entries.{CategoryChecked, checked_of}
-use Rattle.rap_grammar_table.proofs.ExprRows.{atoms, atoms_forbidden, arg_lists, atom_paths, brace_trees, cast_paths, cast_types, last_cast_types, else_prefixed, else_values, name_exprs, open_atoms_so, open_prefixed, operands, operands_forbidden, plain_atoms_so, prefixed, prefixed_forbidden, round_trees, stmt_operands, stmt_prefixed}
+use Rattle.rap_grammar_table.proofs.ExprRows.{atoms, atoms_forbidden, arg_lists, atom_paths, brace_trees, cast_paths, cast_types, last_cast_types, lets, lets_forbidden, else_prefixed, else_values, name_exprs, open_atoms_so, open_prefixed, operands, operands_forbidden, plain_atoms_so, prefixed, prefixed_forbidden, round_trees, stmt_operands, stmt_prefixed}
 use Rattle.rap_grammar_table.proofs.FrontRows.{arm_lists, assoc_lists, extern_lists, field_lists, front_stmts, item_lists, last_stmts, record_value_rows, use_lists, value_lists, variant_lists}
 use Rattle.rap_grammar_table.proofs.GenericRows.{arguments, generic_params, generics, predicates, wheres}
 use Rattle.rap_grammar_table.proofs.ItemRows.{fn_params, items, record_fields_so, variants, visibilities, use_trees}
@@ -117,6 +117,8 @@ each RecordValue = record { rows_are = refl; is_checked = record_value_rows }
 each AttrExpr = record { rows_are = refl; is_checked = attr_exprs }
 each LastCastTy = record { rows_are = refl; is_checked = last_cast_types }
 each NamedRest = record { rows_are = refl; is_checked = named_rests }
+each (Let false) = record { rows_are = refl; is_checked = lets }
+each (Let true) = record { rows_are = refl; is_checked = lets_forbidden }
 
 pub checked : Checked table
 checked = checked_of grammar entry each

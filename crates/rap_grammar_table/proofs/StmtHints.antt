@@ -12,12 +12,12 @@ use Rattle.rap_grammar_table.proofs.ExprHints.{by_expr, kinds_only, no_rule, nod
 use Rattle.rap_grammar_table.proofs.ItemHints.{item_heads}
 use Rattle.rap_grammar_table.proofs.PatternHints.{single_heads}
 use Rattle.rap_grammar_table.proofs.SharedHints.{attr_heads}
-use Rattle.rap_grammar_table.specs.Category.{AttrExpr, Block, If, WithBlock, EmptyStmt, EndingBlock, StmtBlock}
+use Rattle.rap_grammar_table.specs.Category.{AttrExpr, Block, If, WithBlock, EmptyStmt, EndingBlock, StmtBlock, LastArm}
 use Rattle.rap_grammar_table.specs.Known.{Place, anything}
 use Rattle.rap_grammar_table.specs.Notation.{those, up_to, Part, each_under, rows_of, of_kinds}
 use Rattle.rap_grammar_table.specs.Operators.{expr_ends}
 use Rattle.rap_grammar_table.specs.Rows.{rows}
-use Rattle.rap_grammar_table.specs.StmtRows.{stmt_list_rows, arm_rows, last_arm_rows, stmt_exprs, stmt_rows, block_stmt_rows, tail_rows, front_rows, front_stmt_follows, last_stmt_follows}
+use Rattle.rap_grammar_table.specs.StmtRows.{stmt_list_rows, arm_rows, stmt_exprs, stmt_rows, block_stmt_rows, tail_rows, front_rows, front_stmt_follows, last_stmt_follows}
 
 abbrev pub stmt_list_entry : Entry
 stmt_list_entry =
@@ -51,7 +51,7 @@ arm_entry =
 
 abbrev pub last_arm_entry : Entry
 last_arm_entry =
-    text last_arm_rows arm_firsts (kinds_only (R_CURLY ∷ []))
+    text (rows LastArm) arm_firsts (kinds_only (R_CURLY ∷ []))
 
 abbrev pub with_block_entry : Entry
 with_block_entry =

@@ -2,14 +2,14 @@
 use Rattle.rap_base.specs.NodeKind.{ITEM_LIST, ASSOC_ITEM_LIST, EXTERN_ITEM_LIST}
 use Rattle.rap_grammar_table.proofs.AttributeHints.{attr_entry, cfg_entry, inner_attr_entry, macro_path_entry, meta_entry, token_tree_entry}
 use Rattle.rap_grammar_table.proofs.Entry.{Entry, table_of}
-use Rattle.rap_grammar_table.proofs.ExprHints.{arg_list_entry, atom_entry, atom_path_entry, brace_tree_entry, cast_path_entry, cast_type_entry, last_cast_type_entry, closed_entry, condition_entry, else_prefixed_entry, else_value_entry, expr_entry, guard_entry, name_expr_entry, open_atom_entry, open_or_entry, open_and_entry, open_prefixed_entry, operand_entry, plain_atom_entry, prefixed_entry, range_end_entry, record_value_entry, round_tree_entry, stmt_operand_entry, stmt_prefixed_entry, with_cast_entry, assigned_entry}
+use Rattle.rap_grammar_table.proofs.ExprHints.{arg_list_entry, atom_entry, atom_path_entry, brace_tree_entry, cast_path_entry, cast_type_entry, last_cast_type_entry, let_entry, closed_entry, condition_entry, else_prefixed_entry, else_value_entry, expr_entry, guard_entry, name_expr_entry, open_atom_entry, open_or_entry, open_and_entry, open_prefixed_entry, operand_entry, plain_atom_entry, prefixed_entry, range_end_entry, record_value_entry, round_tree_entry, stmt_operand_entry, stmt_prefixed_entry, with_cast_entry, assigned_entry}
 use Rattle.rap_grammar_table.proofs.GenericHints.{argument_entry, generics_entry, param_entry, predicate_entry, where_entry}
 use Rattle.rap_grammar_table.proofs.Hints.{Table}
 use Rattle.rap_grammar_table.proofs.ItemHints.{field_entry, fn_params_entry, item_entry, in_braces, use_tree_entry, variant_entry, visibility_entry}
 use Rattle.rap_grammar_table.proofs.PatternHints.{named_rest_entry, param_pattern_entry, pattern_entry, path_entry as path_entry_of_patterns, rest_entry, single_entry}
 use Rattle.rap_grammar_table.proofs.StmtHints.{arm_entry, attr_expr_entry, block_entry, block_stmt_entry, empty_stmt_entry, ending_block_entry, front_stmt_entry, if_entry, last_arm_entry, last_stmt_entry, macro_tail_entry, stmt_block_entry, stmt_entry, stmt_expr_entry, stmt_list_entry, tail_entry, with_block_entry}
 use Rattle.rap_grammar_table.proofs.TypeHints.{anchor_entry, anchored_path_entry, args_entry, before_plus_entry, bound_entry, bounds_entry, expr_path_entry, simple_path_entry, trait_ref_entry, fn_pointer_params_entry, global_path_entry, param_name_entry, path_before_plus_entry, path_entry, plain_entry, symbol_entry, type_entry, use_path_entry}
-use Rattle.rap_grammar_table.specs.Category.{Category, Ty, PlainTy, TyBeforePlus, AnchorTrait, SymbolTy, Path, PathBeforePlus, UsePath, GlobalPath, AnchoredPath, Args, Argument, Bound, Bounds, GenericParam, Generics, Predicate, Where, ParamName, FnPointerParams, Pattern, Expr, Stmt, Block, Visibility, RecordField, Variant, FnParams, Item, TokenTree, Attr, Meta, Cfg, MacroPath, ExprPath, SimplePath, TraitRef, UseTree, InnerAttr, SinglePattern, PatternPath, RestPattern, ParamPattern, AtomPath, RoundTree, BraceTree, ArgList, NameExpr, CastTy, CastPath, StmtList, If, WithBlock, Arm, LastArm, Atom, Operand, Prefixed, StmtOperand, StmtPrefixed, OpenAtom, OpenPrefixed, Condition, Guard, RangeEnd, Assigned, StmtExpr, StmtBlock, BlockStmt, Tail, Closed, WithCast, OpenOr, OpenAnd, EndingBlock, EmptyStmt, MacroTail, PlainAtom, ElseValue, ElsePrefixed, RecordFields, Variants, UseTrees, ItemList, AssocItems, ExternItems, RecordValues, MatchArms, FrontStmt, LastStmt, RecordValue, AttrExpr, LastCastTy, NamedRest}
+use Rattle.rap_grammar_table.specs.Category.{Category, Ty, PlainTy, TyBeforePlus, AnchorTrait, SymbolTy, Path, PathBeforePlus, UsePath, GlobalPath, AnchoredPath, Args, Argument, Bound, Bounds, GenericParam, Generics, Predicate, Where, ParamName, FnPointerParams, Pattern, Expr, Stmt, Block, Visibility, RecordField, Variant, FnParams, Item, TokenTree, Attr, Meta, Cfg, MacroPath, ExprPath, SimplePath, TraitRef, UseTree, InnerAttr, SinglePattern, PatternPath, RestPattern, ParamPattern, AtomPath, RoundTree, BraceTree, ArgList, NameExpr, CastTy, CastPath, StmtList, If, WithBlock, Arm, LastArm, Atom, Operand, Prefixed, StmtOperand, StmtPrefixed, OpenAtom, OpenPrefixed, Condition, Guard, RangeEnd, Assigned, StmtExpr, StmtBlock, BlockStmt, Tail, Closed, WithCast, OpenOr, OpenAnd, EndingBlock, EmptyStmt, MacroTail, PlainAtom, ElseValue, ElsePrefixed, RecordFields, Variants, UseTrees, ItemList, AssocItems, ExternItems, RecordValues, MatchArms, FrontStmt, LastStmt, RecordValue, AttrExpr, LastCastTy, NamedRest, Let}
 use Rattle.rap_grammar_table.specs.ExprRows.{record_values}
 use Rattle.rap_grammar_table.specs.ItemRows.{items_under, record_fields, use_list, variant_list}
 use Rattle.rap_grammar_table.specs.Rows.{grammar}
@@ -110,6 +110,7 @@ entry RecordValue = record_value_entry
 entry AttrExpr = attr_expr_entry
 entry LastCastTy = last_cast_type_entry
 entry NamedRest = named_rest_entry
+entry (Let forbid) = let_entry forbid
 
 abbrev pub table : Table
 table = table_of grammar entry

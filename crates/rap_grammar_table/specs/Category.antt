@@ -143,3 +143,5 @@ pub data Category : Type 0 where
   LastCastTy : Category
   -- A name for the rest of a slice, with a `..` behind it.
   NamedRest : Category
+  -- A `let` behind an operator in a condition.
+  Let : Bool → Category

@@ -1,13 +1,13 @@
 -- The rows of expressions.
 use Rattle.std.specs.Prelude.{ℕ, Bool, true, false, List, [], ◌∷◌, ◌++◌}
-use Rattle.rap_base.specs.NodeKind.{ARRAY_EXPR, ARRAY_TYPE, AWAIT_EXPR, BECOME_EXPR, BLOCK_EXPR, BREAK_EXPR, CALL_EXPR, CLOSURE_EXPR, CONST_ARG, CONTINUE_EXPR, FIELD_EXPR, GENERIC_ARG_LIST, INDEX_EXPR, INFER_TYPE, LET_EXPR, MACRO_CALL, MACRO_EXPR, METHOD_CALL_EXPR, NAME_REF, NEVER_TYPE, PARAM, PARAM_LIST, PAREN_EXPR, PAREN_TYPE, PATH, PATH_EXPR, PATH_SEGMENT, PATH_TYPE, PREFIX_EXPR, PTR_TYPE, RANGE_EXPR, RECORD_EXPR, RECORD_EXPR_FIELD, RECORD_EXPR_FIELD_LIST, REF_EXPR, REF_TYPE, RETURN_EXPR, SLICE_TYPE, TRY_EXPR, TUPLE_EXPR, TUPLE_TYPE, UNDERSCORE_EXPR, YIELD_EXPR}
+use Rattle.rap_base.specs.NodeKind.{ARRAY_EXPR, ARRAY_TYPE, AWAIT_EXPR, BECOME_EXPR, BLOCK_EXPR, BREAK_EXPR, CALL_EXPR, CLOSURE_EXPR, CONST_ARG, CONTINUE_EXPR, FIELD_EXPR, GENERIC_ARG_LIST, INDEX_EXPR, INFER_TYPE, LET_EXPR, MACRO_CALL, MACRO_EXPR, METHOD_CALL_EXPR, NAME_REF, NEVER_TYPE, PARAM, PARAM_LIST, PAREN_EXPR, PAREN_TYPE, PATH_EXPR, PATH_TYPE, PREFIX_EXPR, PTR_TYPE, RANGE_EXPR, RECORD_EXPR, RECORD_EXPR_FIELD, RECORD_EXPR_FIELD_LIST, REF_EXPR, REF_TYPE, RETURN_EXPR, SLICE_TYPE, TRY_EXPR, TUPLE_EXPR, TUPLE_TYPE, UNDERSCORE_EXPR, YIELD_EXPR}
 use Rattle.rap_base.specs.TokenKind.{IDENT, SEMICOLON, COMMA, COLON, COLON2, EQ, L_PAREN, R_PAREN, L_BRACK, R_BRACK, L_CURLY, R_CURLY, L_ANGLE, R_ANGLE, AMP, STAR, BANG, MINUS, PIPE, DOT, DOT2, QUESTION, UNDERSCORE, LIFETIME_IDENT, INT_NUMBER, ASYNC_KW, AWAIT_KW, BECOME_KW, BREAK_KW, CONST_KW, CONTINUE_KW, LET_KW, MOVE_KW, MUT_KW, RAW_KW, RETURN_KW, YIELD_KW}
 use Rattle.rap_grammar_scripts.specs.Words.{is_at, next_is}
 use Rattle.rap_grammar_table.specs.AttributeRows.{tree_in}
 use Rattle.rap_grammar_table.specs.Category.{Ty, PlainTy, Argument, Expr, AttrExpr, PlainAtom, ElsePrefixed, StmtList, Pattern, SinglePattern, AtomPath, RoundTree, ArgList, NameExpr, CastTy, CastPath, WithBlock, Atom, Operand, Prefixed, StmtPrefixed, OpenAtom, OpenPrefixed, RecordValue, Assigned, WithCast, And, Category, Or}
 use Rattle.rap_grammar_table.specs.SharedRows.{attrs, lifetime, literal, name_ref, path_names}
 use Rattle.rap_grammar_table.specs.Notation.{Part, ◌⊳◌, t, ts, weak, op, c, node, opt, either, commas, commas_last, alone, guard, turn, around}
-use Rattle.rap_grammar_table.specs.Operators.{all_turns, and_open, assign_turns, behind, binary_cast, cast_turns, fresh, levels, range_turn, range_with_end, tighter}
+use Rattle.rap_grammar_table.specs.Operators.{all_turns, and_let, and_open, assign_turns, behind, binary_cast, cast_turns, fresh, levels, range_turn, range_with_end, tighter}
 use Rattle.rap_grammar_table.specs.TypeRows.{anchored_path, fn_pointer, global_path, named_paths, ret}
 
 -- a value in a list, which may have attributes
@@ -18,9 +18,6 @@ abbrev pub round_tree_rows : List Part
 round_tree_rows = tree_in L_PAREN R_PAREN ∷ tree_in L_BRACK R_BRACK ∷ []
 
 -- The arguments of a call; and a name that is the value of its field too.
-abbrev pub name_expr_rows : List Part
-name_expr_rows = node PATH_EXPR (node PATH (node PATH_SEGMENT (name_ref (IDENT ∷ [])))) ∷ []
-
 -- a record: its fields, and what the others are taken from
 abbrev pub record_field : Part
 record_field =
@@ -177,11 +174,16 @@ abbrev pub expr_rows : List Part
 expr_rows =
     (c (Operand false) ⊳ around fresh all_turns) ∷ open_range false ∷ (ranges_to false ++ c OpenAtom ∷ open_prefixes)
 
--- Conditions: with `let` alone, or before `&&` and `||`; the guard of an arm may begin so too.
-abbrev pub let_chain : Bool → Part
-let_chain forbid =
-    node LET_EXPR (t LET_KW ⊳ c Pattern ⊳ t EQ ⊳ c (WithCast forbid And)) ⊳
-    around (behind And) (binary_cast forbid And ⊳ binary_cast forbid Or)
+-- Conditions: with `let` first, or behind `&&`, and before `&&` and `||`; the guard of an arm may be so too.
+abbrev pub let_expr : Bool → Part
+let_expr forbid = node LET_EXPR (t LET_KW ⊳ c Pattern ⊳ t EQ ⊳ c (WithCast forbid And))
+
+abbrev pub before_let : Bool → Part
+before_let forbid = c (Operand forbid) ⊳ around fresh (cast_turns forbid levels ⊳ and_let forbid)
+
+abbrev pub let_first : Bool → Part
+let_first forbid =
+    let_expr forbid ⊳ around (behind And) (binary_cast forbid And ⊳ and_let forbid ⊳ binary_cast forbid Or)
 
 abbrev pub without_let : List Part
 without_let =
@@ -189,10 +191,12 @@ without_let =
     ranges_to true
 
 abbrev pub condition_rows : List Part
-condition_rows = without_let ++ let_chain true ∷ []
+condition_rows = before_let true ∷ (without_let ++ let_first true ∷ [])
 
 abbrev pub guard_rows : List Part
-guard_rows = (c (Operand false) ⊳ around fresh (cast_turns false levels ⊳ range_turn false)) ∷ let_chain false ∷ []
+guard_rows =
+    before_let false ∷ (c (Operand false) ⊳ around fresh (cast_turns false levels ⊳ range_turn false)) ∷
+    let_first false ∷ []
 
 -- the types of casts
 abbrev pub cast_path_rows : List Part

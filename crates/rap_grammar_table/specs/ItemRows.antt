@@ -1,7 +1,7 @@
 -- The rows of items.
 use Rattle.std.specs.Prelude.{ℕ, List, [], ◌∷◌, ◌++◌, ◌==◌, not, Option, Some, map}
 use Rattle.rap_base.specs.KeywordTable.{contextual_ever}
-use Rattle.rap_base.specs.NodeKind.{CONST, CONST_ARG, ENUM, FN, ITEM_LIST, MODULE, NAME, NAME_REF, PARAM, PARAM_LIST, PATH, PATH_SEGMENT, RECORD_FIELD, RECORD_FIELD_LIST, SELF_PARAM, STATIC, STRUCT, TUPLE_FIELD, TUPLE_FIELD_LIST, TYPE_ALIAS, VARIANT, VARIANT_LIST, VISIBILITY, VISIBILITY_INNER, RENAME, USE, USE_TREE, USE_TREE_LIST, EXTERN_CRATE, EXTERN_BLOCK, EXTERN_ITEM_LIST, ASSOC_ITEM_LIST, MACRO_DEF, MACRO_RULES, MACRO_CALL, UNION, TRAIT, IMPL}
+use Rattle.rap_base.specs.NodeKind.{CONST, CONST_ARG, ENUM, FN, ITEM_LIST, MODULE, NAME, NAME_REF, PARAM, PARAM_LIST, PATH, PATH_SEGMENT, RECORD_FIELD_LIST, SELF_PARAM, STATIC, STRUCT, TUPLE_FIELD, TUPLE_FIELD_LIST, TYPE_ALIAS, VARIANT, VARIANT_LIST, VISIBILITY, VISIBILITY_INNER, RENAME, USE, USE_TREE, USE_TREE_LIST, EXTERN_CRATE, EXTERN_BLOCK, EXTERN_ITEM_LIST, ASSOC_ITEM_LIST, MACRO_DEF, MACRO_RULES, MACRO_CALL, UNION, TRAIT, IMPL}
 use Rattle.rap_base.specs.TokenKind.{DOT3, AUTO_KW, DEFAULT_KW, L_BRACK, R_BRACK, EOF, IDENT, SEMICOLON, COMMA, COLON, COLON2, EQ, L_PAREN, R_PAREN, L_CURLY, R_CURLY, AMP, UNDERSCORE, ASYNC_KW, CONST_KW, CRATE_KW, ENUM_KW, EXTERN_KW, FN_KW, IN_KW, MOD_KW, MUT_KW, PUB_KW, SELF_KW, STATIC_KW, STRUCT_KW, SUPER_KW, TYPE_KW, UNSAFE_KW, AS_KW, STAR, BANG, L_ANGLE, UNION_KW, USE_KW, TRAIT_KW, IMPL_KW, FOR_KW, MACRO_KW, MACRO_RULES_KW, SAFE_KW, POUND, R_ANGLE, LIFETIME_IDENT}
 use Rattle.rap_grammar_scripts.specs.First.{one_of}
 use Rattle.rap_grammar_scripts.specs.Test.{Test, also, comes, kind_so, negated, or_else}
@@ -44,9 +44,6 @@ field_visibility =
     (node VISIBILITY (t PUB_KW) ⊳ guard restricts)
 
 -- the fields of a struct or of a variant
-abbrev pub field_rows : List Part
-field_rows = node RECORD_FIELD (attrs ⊳ opt_visibility ⊳ name ⊳ t COLON ⊳ c Ty) ∷ []
-
 abbrev pub record_fields : Part
 record_fields = node RECORD_FIELD_LIST (t L_CURLY ⊳ commas (c RecordField) ⊳ t R_CURLY)
 

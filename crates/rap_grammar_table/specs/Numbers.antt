@@ -1,7 +1,7 @@
 -- Written by crates/rap_grammar_rows/rows from Category.antt: an edit here is lost.
 -- The categories in a row, and the place of each.
 use Rattle.std.specs.Prelude.{ℕ, zero, suc, false, true, List, [], ◌∷◌, Option, Some, None}
-use Rattle.rap_grammar_table.specs.Category.{Category, Ty, PlainTy, TyBeforePlus, AnchorTrait, SymbolTy, Path, PathBeforePlus, UsePath, GlobalPath, AnchoredPath, Args, Argument, Bound, Bounds, GenericParam, Generics, Predicate, Where, ParamName, FnPointerParams, Pattern, Expr, Stmt, Block, Visibility, RecordField, Variant, FnParams, Item, TokenTree, Attr, Meta, Cfg, MacroPath, ExprPath, SimplePath, TraitRef, UseTree, InnerAttr, SinglePattern, PatternPath, RestPattern, ParamPattern, AtomPath, RoundTree, BraceTree, ArgList, NameExpr, CastTy, CastPath, StmtList, If, WithBlock, Arm, LastArm, Atom, Operand, Prefixed, StmtOperand, StmtPrefixed, OpenAtom, OpenPrefixed, Condition, Guard, RangeEnd, Assigned, StmtExpr, StmtBlock, BlockStmt, Tail, Closed, Or, And, Comparison, BitOr, BitXor, BitAnd, Shift, Sum, Product, WithCast, OpenOr, OpenAnd, EndingBlock, EmptyStmt, MacroTail, PlainAtom, ElseValue, ElsePrefixed, RecordFields, Variants, UseTrees, ItemList, AssocItems, ExternItems, RecordValues, MatchArms, FrontStmt, LastStmt, RecordValue, AttrExpr, LastCastTy, NamedRest}
+use Rattle.rap_grammar_table.specs.Category.{Category, Ty, PlainTy, TyBeforePlus, AnchorTrait, SymbolTy, Path, PathBeforePlus, UsePath, GlobalPath, AnchoredPath, Args, Argument, Bound, Bounds, GenericParam, Generics, Predicate, Where, ParamName, FnPointerParams, Pattern, Expr, Stmt, Block, Visibility, RecordField, Variant, FnParams, Item, TokenTree, Attr, Meta, Cfg, MacroPath, ExprPath, SimplePath, TraitRef, UseTree, InnerAttr, SinglePattern, PatternPath, RestPattern, ParamPattern, AtomPath, RoundTree, BraceTree, ArgList, NameExpr, CastTy, CastPath, StmtList, If, WithBlock, Arm, LastArm, Atom, Operand, Prefixed, StmtOperand, StmtPrefixed, OpenAtom, OpenPrefixed, Condition, Guard, RangeEnd, Assigned, StmtExpr, StmtBlock, BlockStmt, Tail, Closed, Or, And, Comparison, BitOr, BitXor, BitAnd, Shift, Sum, Product, WithCast, OpenOr, OpenAnd, EndingBlock, EmptyStmt, MacroTail, PlainAtom, ElseValue, ElsePrefixed, RecordFields, Variants, UseTrees, ItemList, AssocItems, ExternItems, RecordValues, MatchArms, FrontStmt, LastStmt, RecordValue, AttrExpr, LastCastTy, NamedRest, Let}
 
 abbrev pub categories : List Category
 categories =
@@ -23,7 +23,8 @@ categories =
     (WithCast true BitOr) ∷ (WithCast true BitXor) ∷ (WithCast true BitAnd) ∷ (WithCast true Shift) ∷
     (WithCast true Sum) ∷ (WithCast true Product) ∷ OpenOr ∷ OpenAnd ∷ EndingBlock ∷ EmptyStmt ∷ MacroTail ∷
     PlainAtom ∷ ElseValue ∷ ElsePrefixed ∷ RecordFields ∷ Variants ∷ UseTrees ∷ ItemList ∷ AssocItems ∷ ExternItems ∷
-    RecordValues ∷ MatchArms ∷ FrontStmt ∷ LastStmt ∷ RecordValue ∷ AttrExpr ∷ LastCastTy ∷ NamedRest ∷ []
+    RecordValues ∷ MatchArms ∷ FrontStmt ∷ LastStmt ∷ RecordValue ∷ AttrExpr ∷ LastCastTy ∷ NamedRest ∷ (Let false) ∷
+    (Let true) ∷ []
 
 abbrev pub number : Category → ℕ
 number Ty = 0
@@ -158,6 +159,8 @@ number RecordValue = 128
 number AttrExpr = 129
 number LastCastTy = 130
 number NamedRest = 131
+number (Let false) = 132
+number (Let true) = 133
 
 abbrev pub category_at : ℕ → List Category → Option Category
 category_at n [] = None

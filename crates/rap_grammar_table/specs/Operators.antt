@@ -3,7 +3,7 @@ use Rattle.std.specs.Prelude.{ℕ, Bool, true, false, List, [], ◌∷◌, ◌++
 use Rattle.rap_base.specs.NodeKind.{BIN_EXPR, CAST_EXPR, RANGE_EXPR}
 use Rattle.rap_base.specs.TokenKind.{EOF, SEMICOLON, COMMA, R_PAREN, R_BRACK, L_CURLY, R_CURLY, L_ANGLE, R_ANGLE, AMP, AMP2, AMPEQ, CARET, CARETEQ, DOT2, DOT2EQ, EQ, EQ2, GTEQ, LTEQ, MINUS, MINUSEQ, NEQ, PERCENT, PERCENTEQ, PIPE, PIPE2, PIPEEQ, PLUS, PLUSEQ, SHL, SHLEQ, SHR, SHREQ, SLASH, SLASHEQ, STAR, STAREQ, AS_KW, WHERE_KW}
 use Rattle.rap_grammar_scripts.specs.Words.{is_at, next_is}
-use Rattle.rap_grammar_table.specs.Category.{Level, Or, And, Comparison, BitOr, BitXor, BitAnd, Shift, Sum, Product, Category, CastTy, LastCastTy, Closed, Expr, OpenAnd, OpenOr, RangeEnd, WithCast}
+use Rattle.rap_grammar_table.specs.Category.{Level, Or, And, Comparison, BitOr, BitXor, BitAnd, Shift, Sum, Product, Category, CastTy, LastCastTy, Closed, Expr, Let, OpenAnd, OpenOr, RangeEnd, WithCast}
 use Rattle.rap_grammar_table.specs.Known.{Place}
 use Rattle.rap_grammar_table.specs.Notation.{Part, ◌⊳◌, t, op, c, either, guard, turn, of_kinds}
 
@@ -159,6 +159,10 @@ last_cast = turn (fresh ∷ behind_cast ∷ []) CAST_EXPR (t AS_KW ⊳ c LastCas
 
 abbrev pub and_open : Part
 and_open = turn (all_from And) BIN_EXPR (op AMP2 ⊳ c OpenAnd) closing
+
+-- a `let` at the right of an operator, in a condition
+abbrev pub and_let : Bool → Part
+and_let forbid = turn (all_from And) BIN_EXPR (op AMP2 ⊳ c (Let forbid)) (behind_cast_in And)
 
 abbrev pub or_open : Part
 or_open = turn (all_from Or) BIN_EXPR (op PIPE2 ⊳ c OpenOr) closing

@@ -1,17 +1,17 @@
 -- The core grammar: the rows of each category.
 use Rattle.std.specs.Prelude.{false, List, [], ◌∷◌}
-use Rattle.rap_base.specs.NodeKind.{ITEM_LIST, ASSOC_ITEM_LIST, EXTERN_ITEM_LIST, EXPR_STMT, PATH, PATH_TYPE, ARG_LIST, REST_PAT}
-use Rattle.rap_base.specs.TokenKind.{L_CURLY, R_CURLY, DOT2, L_PAREN, R_PAREN, SEMICOLON}
+use Rattle.rap_base.specs.NodeKind.{ITEM_LIST, ASSOC_ITEM_LIST, EXTERN_ITEM_LIST, EXPR_STMT, PATH, PATH_TYPE, ARG_LIST, REST_PAT, MATCH_ARM, PATH_EXPR, PATH_SEGMENT, RECORD_FIELD}
+use Rattle.rap_base.specs.TokenKind.{L_CURLY, R_CURLY, DOT2, L_PAREN, R_PAREN, SEMICOLON, COLON, IDENT}
 use Rattle.rap_grammar_table.specs.AttributeRows.{token_tree_rows, attr_rows, meta_rows, cfg_rows, macro_path_rows, inner_attr_rows, tree_in}
-use Rattle.rap_grammar_table.specs.Category.{Category, Ty, PlainTy, TyBeforePlus, AnchorTrait, SymbolTy, Path, PathBeforePlus, UsePath, GlobalPath, AnchoredPath, Args, Argument, Bound, Bounds, GenericParam, Generics, Predicate, Where, ParamName, FnPointerParams, Pattern, Expr, Stmt, Block, Visibility, RecordField, Variant, FnParams, Item, TokenTree, Attr, Meta, Cfg, MacroPath, ExprPath, SimplePath, TraitRef, UseTree, InnerAttr, SinglePattern, PatternPath, RestPattern, ParamPattern, AtomPath, RoundTree, BraceTree, ArgList, NameExpr, CastTy, CastPath, StmtList, If, WithBlock, Arm, LastArm, Atom, Operand, Prefixed, StmtOperand, StmtPrefixed, OpenAtom, OpenPrefixed, Condition, Guard, RangeEnd, Assigned, StmtExpr, StmtBlock, BlockStmt, Tail, Closed, WithCast, OpenOr, OpenAnd, EndingBlock, EmptyStmt, MacroTail, PlainAtom, ElseValue, ElsePrefixed, RecordFields, Variants, UseTrees, ItemList, AssocItems, ExternItems, RecordValues, MatchArms, FrontStmt, LastStmt, RecordValue, And, AttrExpr, LastCastTy, NamedRest}
-use Rattle.rap_grammar_table.specs.ExprRows.{record_values, expr_rows, round_tree_rows, name_expr_rows, cast_type_rows, cast_path_rows, operand_rows, stmt_operand_rows, open_atoms, open_prefixed_rows, condition_rows, guard_rows, open_or_rows, plain_atoms, else_rows, without_let, atoms, block_part, open_prefixes, record_field, value}
+use Rattle.rap_grammar_table.specs.Category.{Category, Ty, PlainTy, TyBeforePlus, AnchorTrait, SymbolTy, Path, PathBeforePlus, UsePath, GlobalPath, AnchoredPath, Args, Argument, Bound, Bounds, GenericParam, Generics, Predicate, Where, ParamName, FnPointerParams, Pattern, Expr, Stmt, Block, Visibility, RecordField, Variant, FnParams, Item, TokenTree, Attr, Meta, Cfg, MacroPath, ExprPath, SimplePath, TraitRef, UseTree, InnerAttr, SinglePattern, PatternPath, RestPattern, ParamPattern, AtomPath, RoundTree, BraceTree, ArgList, NameExpr, CastTy, CastPath, StmtList, If, WithBlock, Arm, LastArm, Atom, Operand, Prefixed, StmtOperand, StmtPrefixed, OpenAtom, OpenPrefixed, Condition, Guard, RangeEnd, Assigned, StmtExpr, StmtBlock, BlockStmt, Tail, Closed, WithCast, OpenOr, OpenAnd, EndingBlock, EmptyStmt, MacroTail, PlainAtom, ElseValue, ElsePrefixed, RecordFields, Variants, UseTrees, ItemList, AssocItems, ExternItems, RecordValues, MatchArms, FrontStmt, LastStmt, RecordValue, And, AttrExpr, LastCastTy, NamedRest, Let}
+use Rattle.rap_grammar_table.specs.ExprRows.{record_values, expr_rows, round_tree_rows, cast_type_rows, cast_path_rows, operand_rows, stmt_operand_rows, open_atoms, open_prefixed_rows, condition_rows, guard_rows, open_or_rows, plain_atoms, else_rows, without_let, atoms, block_part, open_prefixes, record_field, value, let_expr}
 use Rattle.rap_grammar_table.specs.GenericRows.{argument_rows, param_rows, generics_rows, predicate_rows, where_rows}
-use Rattle.rap_grammar_table.specs.ItemRows.{items_under, record_fields, use_list, variant_list, visibility_rows, field_rows, variant_rows, fn_params_rows, item_rows, use_tree_rows}
+use Rattle.rap_grammar_table.specs.ItemRows.{items_under, record_fields, use_list, variant_list, visibility_rows, variant_rows, fn_params_rows, item_rows, use_tree_rows, opt_visibility}
 use Rattle.rap_grammar_table.specs.Notation.{each_under, rows_of, Part, ◌⊳◌, around, c, node, commas, op, t}
 use Rattle.rap_grammar_table.specs.Operators.{cast_turns, closed_turns, fresh, levels, tighter}
 use Rattle.rap_grammar_table.specs.PatternRows.{or_rows, single_rows, named_rest_rows, param_pattern_rows}
-use Rattle.rap_grammar_table.specs.SharedRows.{path_names, use_names}
-use Rattle.rap_grammar_table.specs.StmtRows.{match_arms, stmt_rows, stmt_list_rows, arm_rows, last_arm_rows, stmt_exprs, block_stmt_rows, tail_rows, front_rows, if_expr, with_blocks, attributed_exprs}
+use Rattle.rap_grammar_table.specs.SharedRows.{path_names, use_names, attrs, name, name_ref}
+use Rattle.rap_grammar_table.specs.StmtRows.{match_arms, stmt_rows, stmt_list_rows, arm_rows, stmt_exprs, block_stmt_rows, tail_rows, front_rows, if_expr, with_blocks, attributed_exprs, arm_head}
 use Rattle.rap_grammar_table.specs.Table.{Grammar}
 use Rattle.rap_grammar_table.specs.TypeRows.{type_rows, plain_type_rows, type_before_plus_rows, anchor_trait_rows, symbol_type_rows, args_rows, param_name_rows, fn_pointer_params_rows, expr_path_rows, alone_or_in_parens, anchored_path, bare_bounds, bound_list, global_path, more_segments, named_paths, segment}
 
@@ -42,7 +42,7 @@ rows Expr = expr_rows
 rows Stmt = stmt_rows
 rows Block = block_part ∷ []
 rows Visibility = visibility_rows
-rows RecordField = field_rows
+rows RecordField = node RECORD_FIELD (attrs ⊳ opt_visibility ⊳ name ⊳ t COLON ⊳ c Ty) ∷ []
 rows Variant = variant_rows
 rows FnParams = fn_params_rows
 rows Item = item_rows
@@ -64,14 +64,14 @@ rows AtomPath = expr_path_rows
 rows RoundTree = round_tree_rows
 rows BraceTree = tree_in L_CURLY R_CURLY ∷ []
 rows ArgList = node ARG_LIST (t L_PAREN ⊳ commas value ⊳ t R_PAREN) ∷ []
-rows NameExpr = name_expr_rows
+rows NameExpr = node PATH_EXPR (node PATH (node PATH_SEGMENT (name_ref (IDENT ∷ [])))) ∷ []
 rows CastTy = cast_type_rows
 rows CastPath = cast_path_rows
 rows StmtList = stmt_list_rows
 rows If = if_expr ∷ []
 rows WithBlock = with_blocks
 rows Arm = arm_rows
-rows LastArm = last_arm_rows
+rows LastArm = node MATCH_ARM (arm_head ⊳ c StmtExpr) ∷ []
 rows (Atom forbid) = atoms forbid
 rows (Operand forbid) = operand_rows forbid
 rows (Prefixed forbid) = c (Operand forbid) ∷ []
@@ -111,6 +111,7 @@ rows RecordValue = record_field ∷ []
 rows AttrExpr = attributed_exprs (Prefixed false)
 rows LastCastTy = plain_type_rows
 rows NamedRest = named_rest_rows
+rows (Let forbid) = let_expr forbid ∷ []
 
 -- the core grammar
 abbrev pub grammar : Grammar

@@ -32,9 +32,6 @@ arm_head = attrs ⊳ c Pattern ⊳ opt (node MATCH_GUARD (t IF_KW ⊳ c Guard)) 
 abbrev pub arm_rows : List Part
 arm_rows = node MATCH_ARM (arm_head ⊳ either (c StmtExpr ⊳ t COMMA) (c StmtBlock ⊳ opt (t COMMA))) ∷ []
 
-abbrev pub last_arm_rows : List Part
-last_arm_rows = node MATCH_ARM (arm_head ⊳ c StmtExpr) ∷ []
-
 abbrev pub match_arms : Part
 match_arms = node MATCH_ARM_LIST (t L_CURLY ⊳ inner_attrs ⊳ until (c Arm) (opt (c LastArm)) ⊳ t R_CURLY)
 

@@ -217,7 +217,7 @@ expression_of : {ks : List Record} {t : Forest} → Expressed (Operand false) (a
 expression_of d e s =
     record {
       any = makes 0 refl (whole d);
-      condition = makes 0 refl (whole e);
+      condition = makes 1 refl (whole e);
       assigned = makes 0 refl (whole e);
       stmt = s;
     }

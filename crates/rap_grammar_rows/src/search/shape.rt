@@ -7,7 +7,7 @@ use rap_base::syntax_kind::SyntaxKind;
 use std::alloc::Global;
 
 /// How many categories there are.
-const CATEGORIES: u16 = 132;
+const CATEGORIES: u16 = 134;
 
 /// Where the node ends that is open from a place on: its kind, and the place behind it.
 pub fn end_of_node(place: usize) -> Option<(u16, usize)> {
