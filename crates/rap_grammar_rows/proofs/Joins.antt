@@ -5,7 +5,7 @@ use Rattle.rap_events.specs.Forest.{Forest, none, node, ◌⧺◌}
 use Rattle.rap_events.specs.Record.{Record}
 use Rattle.rap_grammar_rows.proofs.Content.{content, file_content}
 use Rattle.rap_grammar_rows.proofs.Leads.{behind}
-use Rattle.rap_grammar_rows.specs.Claims.{Segment, Rest, From, Point, StepIs, IsPiece, IsTurns, IsFold, Folded, row_point, turn_point}
+use Rattle.rap_grammar_rows.specs.Claims.{Segment, Rest, From, Leads, Point, StepIs, IsPiece, IsTurns, IsFold, Folded, row_point, turn_point}
 use Rattle.rap_grammar_rows.specs.Code.{row_places, sets, turns}
 use Rattle.rap_grammar_rows.specs.Decode.{category_of, item_at, or_first, set_in, turn_in}
 use Rattle.rap_grammar_rows.specs.Meaning.{at_place, meaning}
@@ -163,3 +163,9 @@ pub step_done : (tokens : List Record) (end : ℕ) (p q : Point) (k : Outcome) �
 step_done tokens end p q outcome.Stuck h e = absurd cc
 step_done tokens end p q outcome.Done h e = h
 step_done tokens end p q outcome.On h e = absurd cc
+
+pub step_on : (tokens : List Record) (end : ℕ) (p q : Point) (k : Outcome) → StepIs tokens end p q k →
+    k ≡ outcome.On → Leads tokens end p q
+step_on tokens end p q outcome.Stuck h e = absurd cc
+step_on tokens end p q outcome.Done h e = absurd cc
+step_on tokens end p q outcome.On h e = h

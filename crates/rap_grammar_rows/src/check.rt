@@ -19,7 +19,8 @@ use rap_base::no_memory::NoMemory;
 use rap_events::input::Input;
 use std::alloc::Global;
 
-/// Walks along a row up to a token. Returns the shape of its trees, or nothing where the walk is stuck.
+/// Walks along a row up to a token. Returns the walk at its end, which tells the shape of the row's trees, or nothing
+/// where the walk is stuck.
 fn walked(
     alloc: Global,
     input: &Input,
@@ -27,9 +28,9 @@ fn walked(
     start: Walk,
     end: usize,
     moves: &mut Moves<'_>,
-) -> Result<Option<Shape>, NoMemory>
+) -> Result<Option<Walk>, NoMemory>
     requires { All (Holds input.now) facts.now }
-    ensures { IfOk result (λ r. IfSome r (λ shape. From input.now end shape (point start.place start.shape start.frames.items start.at))) }
+    ensures { IfOk result (λ r. IfSome r (λ walk. From input.now end walk.shape (point start.place start.shape start.frames.items start.at))) }
 {
     // For the proof: it fits its type.
     let _tokens = input.len();
@@ -37,7 +38,7 @@ fn walked(
     'parts: for _ in 0..u64::MAX {
         match walk.step(alloc, input, facts, end, moves)? {
             Outcome::Stuck => return Ok(None),
-            Outcome::Done => return Ok(Some(walk.shape)),
+            Outcome::Done => return Ok(Some(walk)),
             Outcome::On => {}
         }
     }
@@ -132,11 +133,12 @@ fn row(
         place,
         shape: Shape::Empty,
         at: start,
-        frames: Vec::new(alloc),
+        frames: moves.take_room(alloc),
     };
-    let Some(shape) = walked(alloc, input, facts, walk, end, moves)? else {
+    let Some(Walk { shape, frames, .. }) = walked(alloc, input, facts, walk, end, moves)? else {
         return Ok(None);
     };
+    moves.keep_room(frames);
     Ok(Some(Fact {
         goal: Goal::Row(place, shape),
         start,
@@ -159,7 +161,7 @@ fn turn_row(
     // For the proof: it fits its type.
     let _tokens = input.len();
     let (start, end) = tokens;
-    let mut frames = Vec::new(alloc);
+    let mut frames = moves.take_room(alloc);
     frames.push(Frame::Opened(Shape::Empty))?;
     let walk = Walk {
         place,
@@ -167,9 +169,13 @@ fn turn_row(
         at: start,
         frames,
     };
-    let Some(Shape::OneNode) = walked(alloc, input, facts, walk, end, moves)? else {
+    let Some(Walk { shape, frames, .. }) = walked(alloc, input, facts, walk, end, moves)? else {
         return Ok(None);
     };
+    let Shape::OneNode = shape else {
+        return Ok(None);
+    };
+    moves.keep_room(frames);
     Ok(Some(Fact {
         goal: Goal::Turn(place),
         start,
@@ -200,11 +206,12 @@ fn category(
         place,
         shape: Shape::Empty,
         at: start,
-        frames: Vec::new(alloc),
+        frames: moves.take_room(alloc),
     };
-    let Some(shape) = walked(alloc, input, facts, walk, end, moves)? else {
+    let Some(Walk { shape, frames, .. }) = walked(alloc, input, facts, walk, end, moves)? else {
         return Ok(None);
     };
+    moves.keep_room(frames);
     Ok(Some(Fact {
         goal: Goal::Category(number, shape),
         start,
@@ -354,7 +361,7 @@ fn all_checked(
 {
     // For the proof: it fits its type.
     let _tokens = input.len();
-    let mut moves = Moves::new(moves);
+    let mut moves = Moves::new(alloc, moves);
     let mut facts = Vec::new(alloc);
     'claims: for claim in claims {
         let Some(fact) = checked(alloc, input, &facts, *claim, &mut moves)? else {

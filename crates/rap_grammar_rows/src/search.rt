@@ -1,15 +1,15 @@
 //! A search for a derivation along a tree: the claims that `derives_file` checks. Nothing of what is found here is
 //! believed: of the search it is proved that it is safe and that it ends, and tested that it finds what there is.
 
-use crate::check::row_place;
 use crate::fact::Claim;
 use crate::guard::is_refused;
-use crate::part::{Part, part_at};
 use crate::search::element::{Elements, elements_of};
 use crate::search::list::{Item, Lists};
+use crate::search::lists::AT_END;
 use crate::search::memo::{Answer, Memo, Question, Wanted};
-use crate::search::shape::{end_of_node, ends_with, turns_at};
-use crate::tokens::{is_token, is_word, operator_end};
+use crate::search::site::{Site, Way, first_row, has_kind, row_at, site_at};
+use crate::search::turning::{Fold, Folds, Turns};
+use crate::tokens::{has_word, is_word, operator_end};
 use rap_base::no_memory::NoMemory;
 use rap_events::input::Input;
 use rap_events::output::Output;
@@ -17,9 +17,11 @@ use std::alloc::Global;
 
 pub mod element;
 mod list;
+mod lists;
 mod memo;
+mod numbers;
 pub mod outside;
-mod shape;
+mod site;
 mod turning;
 
 /// How a text is derived: claims in their order, and the choices of their walks.
@@ -29,60 +31,57 @@ pub struct Derivation {
     pub moves: Vec<usize>,
 }
 
-/// Where a walk is: the place in the rows, the element that comes next, the one where the list ends, what the walk comes
-/// back to, its choices and its tests so far, and whether it has gone down to what nodes stand around.
+/// No element.
+pub(crate) const NONE: usize = usize::MAX;
+
+/// Where a walk is.
 #[derive(Clone, Copy)]
 pub(crate) struct State {
-    pub(crate) place: usize,
+    pub(crate) site: u16,
+    /// The element that comes next.
     pub(crate) at: usize,
-    pub(crate) limit: usize,
-    pub(crate) frames: usize,
-    pub(crate) moves: usize,
+    /// The node in whose list the walk is.
+    pub(crate) node: usize,
+    /// The outermost of the nodes around what comes next, each of which begins with the next one; where there are none it
+    /// is what comes next, and where none were looked for `NONE`.
+    pub(crate) outermost: usize,
+    /// The same for the nodes that are open, and the tests so far: as lists.
+    pub(crate) outer: usize,
     pub(crate) guards: usize,
-    pub(crate) is_inside: bool,
 }
 
-/// A walk along a row that answers a question; of a category the row's number.
+/// A walk along a row that answers a question.
 #[derive(Clone, Copy)]
 pub(crate) struct Walk {
-    pub(crate) question: Question,
+    /// The number of the question's entry.
+    pub(crate) entry: usize,
+    /// Where the row stands among those of its category.
     pub(crate) row: usize,
-    pub(crate) state: State,
-    /// How many states of others stand below those to go back to.
+    /// The node in whose list it began.
+    pub(crate) node: usize,
+    /// How many choices of others stand before its own, and how many states of others below those to go back to.
+    pub(crate) choices: usize,
     pub(crate) below: usize,
-    /// The lists that were there before.
-    pub(crate) mark: usize,
+    pub(crate) state: State,
 }
 
-/// Turns that are found one after another; the newest first.
-#[derive(Clone, Copy)]
-pub(crate) struct Turns {
-    pub(crate) question: Question,
-    pub(crate) at: usize,
-    pub(crate) found: usize,
-    /// Whether only what stands last may come.
-    pub(crate) is_last: bool,
-}
-
-/// Nodes around another one: those that are left, the innermost first, and those that are found, the newest first.
-#[derive(Clone, Copy)]
-pub(crate) struct Folds {
-    pub(crate) question: Question,
-    pub(crate) number: u16,
-    pub(crate) left: usize,
-    pub(crate) found: usize,
-    pub(crate) at: usize,
-    /// The turn to try next, and how many stand before it.
-    pub(crate) place: usize,
-    pub(crate) skips: usize,
-}
-
-/// What is to be done.
+/// What is to be gone on with once there is an answer.
 #[derive(Clone, Copy)]
 pub(crate) enum Task {
     Walk(Walk),
     Turns(Turns),
     Folds(Folds),
+}
+
+/// What a walk comes to.
+#[derive(Clone, Copy)]
+pub(crate) enum Outcome {
+    /// It goes on.
+    On,
+    /// It does not, this way.
+    Back,
+    /// The row is at its end.
+    Done,
 }
 
 /// A search, with all that was found.
@@ -91,7 +90,13 @@ pub(crate) struct Search {
     pub(crate) elements: Elements,
     pub(crate) memo: Memo,
     pub(crate) lists: Lists,
-    pub(crate) states: Vec<State>,
+    /// What walks go back to, each with the number of choices before.
+    pub(crate) states: Vec<(State, usize)>,
+    /// The choices of the walks that have not ended.
+    pub(crate) choices: Vec<usize>,
+    /// Turns that are found, each with the element before it; and nodes around one that are found.
+    pub(crate) turned: Vec<(usize, usize)>,
+    pub(crate) folded: Vec<Fold>,
     pub(crate) tasks: Vec<Task>,
     pub(crate) claims: Vec<Claim>,
     pub(crate) moves: Vec<usize>,
@@ -99,15 +104,14 @@ pub(crate) struct Search {
 }
 
 /// The state before a row.
-fn before(question: Question, place: usize) -> State {
+fn before(site: u16, at: usize, node: usize) -> State {
     State {
-        place,
-        at: question.at,
-        limit: question.limit,
-        frames: 0,
-        moves: 0,
+        site,
+        at,
+        node,
+        outermost: NONE,
+        outer: 0,
         guards: 0,
-        is_inside: false,
     }
 }
 
@@ -117,68 +121,48 @@ impl Search {
         self.elements.at(at).token
     }
 
-    /// Begins a walk along a row.
-    fn walk(&mut self, question: Question, place: usize) -> Walk {
-        Walk {
-            question,
-            row: 0,
-            state: before(question, place),
-            below: self.states.len(),
-            mark: self.lists.mark(),
+    /// The kind of an element in a node, or that the node's list ends before it.
+    #[inline(always)]
+    pub(crate) fn kind_in(&self, at: usize, node: usize) -> u16 {
+        if at < self.elements.end_of(node) {
+            u16::from(self.elements.at(at).kind)
+        } else {
+            AT_END
         }
     }
 
-    /// Begins a category.
-    fn category(&mut self, question: Question, number: u16) -> Walk {
-        let place = row_place(number, 0).unwrap_or(usize::MAX);
-        self.walk(question, place)
+    /// What is wanted from an element on in a node.
+    pub(crate) fn question(&self, wanted: Wanted, at: usize, node: usize) -> Question {
+        Question {
+            wanted,
+            at,
+            limit: self.elements.end_of(node),
+        }
     }
 
-    /// Begins the row of a turn, in the node that is the question's limit.
-    fn turn(&mut self, question: Question, place: usize) -> Result<Walk, NoMemory> {
-        let mut walk = self.walk(question, place);
-        let behind = self.elements.at(question.limit).behind;
-        walk.state.limit = behind;
-        walk.state.frames = self.lists.put(Item::Opened(question.limit, behind), 0)?;
-        Ok(walk)
-    }
-
-    /// What answers a question.
-    fn task(&mut self, question: Question, around: usize) -> Result<Task, NoMemory> {
-        Ok(match question.wanted {
-            Wanted::Category(number) => Task::Walk(self.category(question, number)),
-            Wanted::Row(place) => Task::Walk(self.walk(question, place)),
-            Wanted::Turn(place) => Task::Walk(self.turn(question, place)?),
-            Wanted::Turns(_, _) => Task::Turns(Turns {
-                question,
-                at: question.at,
-                found: 0,
-                is_last: false,
-            }),
-            Wanted::Folds(place, number) => Task::Folds(Folds {
-                question,
-                number,
-                left: around,
-                found: 0,
-                at: question.at,
-                place,
-                skips: 0,
-            }),
+    /// Asks a question: begins a walk in a node from a site on. Of a category it is told where its row stands.
+    pub(crate) fn begin(
+        &mut self,
+        question: Question,
+        node: usize,
+        site: u16,
+        row: usize,
+    ) -> Result<Walk, NoMemory> {
+        let entry = self.memo.ask(question, Answer::Nothing)?;
+        Ok(Walk {
+            entry,
+            row,
+            node,
+            choices: self.choices.len(),
+            below: self.states.len(),
+            state: before(site, question.at, node),
         })
     }
 
-    /// Asks a question, to come back to this task.
-    pub(crate) fn ask(
-        &mut self,
-        back: Task,
-        question: Question,
-        around: usize,
-    ) -> Result<(), NoMemory> {
-        self.memo.settle(question, Answer::Nothing)?;
-        self.tasks.push(back)?;
-        let task = self.task(question, around)?;
-        self.tasks.push(task)?;
-        Ok(())
+    /// Asks for a row.
+    pub(crate) fn begin_row(&mut self, way: Way, at: usize, node: usize) -> Result<Walk, NoMemory> {
+        let question = self.question(Wanted::Row(way.site), at, node);
+        self.begin(question, node, way.site, usize::MAX)
     }
 
     /// Makes a claim. Returns its number.
@@ -188,209 +172,234 @@ impl Search {
         Ok(number)
     }
 
-    /// Goes on with a walk.
-    fn go(&mut self, walk: Walk, state: State) -> Result<(), NoMemory> {
-        let mut walk = walk;
-        walk.state = state;
-        self.tasks.push(Task::Walk(walk))?;
+    /// Answers whether a row derives what comes in a node, if that is known without a walk.
+    pub(crate) fn row(&mut self, way: Way, at: usize, node: usize) -> Result<Answer, NoMemory> {
+        if !has_kind(way.kinds, self.kind_in(at, node)) {
+            return Ok(Answer::Nothing);
+        }
+        let question = self.question(Wanted::Row(way.site), at, node);
+        let answer = self.memo.answer(question);
+        match (answer, site_at(way.site)) {
+            (Answer::Unasked, Site::End) => {
+                let token = self.token(at);
+                let fact = self.claim(Claim::Row(usize::from(way.site), token, token))?;
+                let empty = Answer::Fact(fact, at);
+                self.memo.ask(question, empty)?;
+                Ok(empty)
+            }
+            _ => Ok(answer),
+        }
+    }
+
+    /// Goes back to the last way that a walk left out, or to the next row of its category. Whether there was one.
+    fn back(&mut self, walk: &mut Walk) -> Result<bool, NoMemory> {
+        if self.states.len() > walk.below {
+            if let Some((state, choices)) = self.states.pop() {
+                walk.state = state;
+                self.choices.truncate(choices);
+                self.take_up(state)?;
+                return Ok(true);
+            }
+        }
+        self.forget(walk);
+        if !row_at(walk.row).has_next {
+            return Ok(false);
+        }
+        walk.row = walk.row.saturating_add(1);
+        let at = self.memo.question(walk.entry).at;
+        walk.state = before(row_at(walk.row).site, at, walk.node);
+        Ok(true)
+    }
+
+    /// Goes on at what was left for later: with one node less around what comes, or on the second of two ways.
+    fn take_up(&mut self, state: State) -> Result<(), NoMemory> {
+        if state.outermost == NONE {
+            self.choices.push(1)?;
+            return Ok(());
+        }
+        self.leave_less(state)
+    }
+
+    /// Of a state with nodes around what comes, leaves the one with one less of them for later.
+    fn leave_less(&mut self, state: State) -> Result<(), NoMemory> {
+        if state.outermost >= state.at {
+            return Ok(());
+        }
+        let mut less = state;
+        less.at = state.at.saturating_sub(1);
+        less.node = self.elements.at(less.at).parent;
+        self.leave(less)
+    }
+
+    /// Leaves a way for later.
+    fn leave(&mut self, state: State) -> Result<(), NoMemory> {
+        let choices = self.choices.len();
+        self.states.push((state, choices))?;
         Ok(())
     }
 
-    /// Goes back to the last way that a walk left out, or to the next row of its category.
-    fn back(&mut self, walk: Walk) -> Result<(), NoMemory> {
+    /// Lets go of the ways that a walk left out, and of its choices.
+    fn forget(&mut self, walk: &Walk) {
         if self.states.len() > walk.below {
-            if let Some(state) = self.states.pop() {
-                return self.go(walk, state);
-            }
-        }
-        self.next_row(walk)
-    }
-
-    /// Goes on with the next row of a walk's category, if there is one.
-    fn next_row(&mut self, walk: Walk) -> Result<(), NoMemory> {
-        self.lists.release(walk.mark);
-        let Wanted::Category(number) = walk.question.wanted else {
-            return Ok(());
-        };
-        let mut walk = walk;
-        walk.row = walk.row.saturating_add(1);
-        let Some(place) = row_place(number, walk.row) else {
-            return Ok(());
-        };
-        let state = before(walk.question, place);
-        self.go(walk, state)
-    }
-
-    /// Lets go of the ways that a walk left out.
-    fn forget(&mut self, walk: Walk) {
-        if walk.below < self.states.len() {
             self.states.truncate(walk.below);
         }
-        self.lists.release(walk.mark);
-    }
-
-    /// Goes past a fact.
-    fn past(&mut self, walk: Walk, fact: usize, at: usize, next: usize) -> Result<(), NoMemory> {
-        let mut state = walk.state;
-        state.moves = self.lists.put(Item::Move(fact), state.moves)?;
-        state.place = next;
-        state.at = at;
-        state.is_inside = false;
-        self.go(walk, state)
-    }
-
-    /// Goes past what is wanted, or asks for it.
-    fn by_fact(&mut self, walk: Walk, wanted: Wanted, next: usize) -> Result<(), NoMemory> {
-        let question = Question {
-            wanted,
-            at: walk.state.at,
-            limit: walk.state.limit,
-        };
-        match self.memo.answer(question) {
-            Answer::Unasked => self.ask(Task::Walk(walk), question, 0),
-            Answer::Nothing => self.back(walk),
-            Answer::Fact(fact, at) => self.past(walk, fact, at, next),
+        if self.choices.len() > walk.choices {
+            self.choices.truncate(walk.choices);
         }
     }
 
-    /// Whether nodes may stand around an element, by these turns.
-    fn is_around(&self, turns: usize, at: usize) -> bool {
+    /// Goes on past what was asked for.
+    pub(crate) fn resume(&mut self, walk: &mut Walk, answer: Answer) -> Result<Outcome, NoMemory> {
+        let Answer::Fact(fact, at) = answer else {
+            return Ok(Outcome::Back);
+        };
+        self.choices.push(fact)?;
+        walk.state.at = at;
+        Ok(Outcome::On)
+    }
+
+    /// Goes past a category, or asks for it.
+    fn category(&mut self, walk: &mut Walk, number: u16) -> Result<Outcome, NoMemory> {
+        let State { at, node, .. } = walk.state;
+        let Some(row) = first_row(number, self.kind_in(at, node)) else {
+            return Ok(Outcome::Back);
+        };
+        let question = self.question(Wanted::Category(number), at, node);
+        match self.memo.answer(question) {
+            Answer::Unasked => {
+                self.tasks.push(Task::Walk(*walk))?;
+                *walk = self.begin(question, node, row_at(row).site, row)?;
+                Ok(Outcome::On)
+            }
+            answer => self.resume(walk, answer),
+        }
+    }
+
+    /// Goes past a part that a script reads alone, or asks for it.
+    fn group(&mut self, walk: &mut Walk, way: Way) -> Result<Outcome, NoMemory> {
+        let State { at, node, .. } = walk.state;
+        match self.row(way, at, node)? {
+            Answer::Unasked => {
+                self.tasks.push(Task::Walk(*walk))?;
+                *walk = self.begin_row(way, at, node)?;
+                Ok(Outcome::On)
+            }
+            answer => self.resume(walk, answer),
+        }
+    }
+
+    /// Whether nodes may stand around an element: it is one of these kinds, and begins with another node.
+    fn is_around(&self, kinds: u16, at: usize) -> bool {
         let outer = self.elements.at(at);
         let inner = self.elements.at(at.saturating_add(1));
         outer.is_node
             && inner.is_node
             && inner.behind < outer.behind
-            && ends_with(turns, outer.kind)
+            && has_kind(kinds, u16::from(outer.kind))
     }
 
     /// Goes down to what nodes stand around, as far as it goes; the ways that go less far are left for later.
-    fn inside(&mut self, walk: Walk, turns: usize) -> Result<(), NoMemory> {
-        let mut state = walk.state;
-        state.is_inside = true;
-        let outer = state.frames;
-        let limit = state.limit;
-        let mut around = 0;
-        state.frames = self.lists.put(Item::Around(0, limit), outer)?;
+    fn inside(&mut self, state: &mut State, kinds: u16) -> Result<(), NoMemory> {
+        let end = self.elements.end_of(state.node);
+        state.outermost = state.at;
         'nodes: for _ in 0..u64::MAX {
-            if state.at >= limit || !self.is_around(turns, state.at) {
+            if state.at >= end || !self.is_around(kinds, state.at) {
                 break 'nodes;
             }
-            self.states.push(state)?;
-            around = self.lists.put(Item::Node(state.at), around)?;
-            state.frames = self.lists.put(Item::Around(around, limit), outer)?;
-            state.limit = self.elements.at(state.at).behind;
+            state.node = state.at;
             state.at = state.at.saturating_add(1);
         }
-        self.go(walk, state)
+        self.leave_less(*state)
     }
 
-    /// Begins a node.
-    fn start(&mut self, walk: Walk, next: usize) -> Result<(), NoMemory> {
-        let state = walk.state;
-        let element = self.elements.at(state.at);
-        let Some((kind, behind)) = end_of_node(next) else {
-            return self.back(walk);
-        };
-        if !state.is_inside {
-            if let Some(turns) = turns_at(behind) {
-                return self.inside(walk, turns);
-            }
+    /// Begins a node of this kind.
+    fn start(&mut self, state: &mut State, kind: u16) -> Outcome {
+        if self.kind_in(state.at, state.node) != kind || !self.elements.at(state.at).is_node {
+            return Outcome::Back;
         }
-        if state.at >= state.limit || !element.is_node || u16::from(element.kind) != kind {
-            return self.back(walk);
-        }
-        self.enter(walk, element.behind, next)
-    }
-
-    /// Goes into the node that comes next, which ends at an element.
-    fn enter(&mut self, walk: Walk, behind: usize, next: usize) -> Result<(), NoMemory> {
-        let mut state = walk.state;
-        let node = Item::Opened(state.at, state.limit);
-        state.frames = self.lists.put(node, state.frames)?;
-        state.place = next;
+        state.node = state.at;
         state.at = state.at.saturating_add(1);
-        state.limit = behind;
-        state.is_inside = false;
-        self.go(walk, state)
+        Outcome::On
+    }
+
+    /// Begins a node, and keeps what stands around it.
+    fn start_around(&mut self, state: &mut State, kind: u16) -> Result<Outcome, NoMemory> {
+        let around = Item::Around(state.outermost);
+        state.outer = self.lists.put(around, state.outer)?;
+        state.outermost = NONE;
+        Ok(self.start(state, kind))
     }
 
     /// Ends a node.
-    fn close(&mut self, walk: Walk, kind: u16, next: usize) -> Result<(), NoMemory> {
-        let (Item::Opened(node, limit), frames) = self.lists.first(walk.state.frames) else {
-            return self.back(walk);
-        };
-        let element = self.elements.at(node);
-        if element.behind != walk.state.at || u16::from(element.kind) != kind {
-            return self.back(walk);
+    fn close(&mut self, state: &mut State) -> Outcome {
+        let element = self.elements.at(state.node);
+        if element.behind != state.at {
+            return Outcome::Back;
         }
-        let mut state = walk.state;
-        state.place = next;
-        state.limit = limit;
-        state.frames = frames;
-        self.go(walk, state)
+        state.node = element.parent;
+        Outcome::On
+    }
+
+    /// Ends a node, and takes up what stands around it.
+    fn close_around(&mut self, state: &mut State) -> Outcome {
+        let (Item::Around(outermost), outer) = self.lists.first(state.outer) else {
+            return Outcome::Back;
+        };
+        state.outermost = outermost;
+        state.outer = outer;
+        self.close(state)
     }
 
     /// Goes past a leaf, if it is as the row asks.
-    fn leaf(&mut self, walk: Walk, is_one: bool, next: usize) -> Result<(), NoMemory> {
-        let mut state = walk.state;
-        let element = self.elements.at(state.at);
-        if state.at >= state.limit || element.is_node || !is_one {
-            return self.back(walk);
+    fn leaf(&mut self, state: &mut State, is_one: bool) -> Outcome {
+        if !is_one
+            || state.at >= self.elements.end_of(state.node)
+            || self.elements.at(state.at).is_node
+        {
+            return Outcome::Back;
         }
-        state.place = next;
         state.at = state.at.saturating_add(1);
-        self.go(walk, state)
+        Outcome::On
     }
 
-    /// Takes the first of two ways, and leaves the second for later.
-    fn choose(
-        &mut self,
-        walk: Walk,
-        first: usize,
-        second: usize,
-        next: usize,
-    ) -> Result<(), NoMemory> {
-        let mut state = walk.state;
-        state.frames = self.lists.put(Item::Then(next), state.frames)?;
-        let moves = state.moves;
-        state.moves = self.lists.put(Item::Move(1), moves)?;
-        state.place = second;
-        self.states.push(state)?;
-        state.moves = self.lists.put(Item::Move(0), moves)?;
-        state.place = first;
-        self.go(walk, state)
-    }
-
-    /// Ends a way, or the row.
-    fn end(&mut self, input: &Input, walk: Walk) -> Result<(), NoMemory> {
-        let mut state = walk.state;
-        let (item, frames) = self.lists.first(state.frames);
-        match item {
-            Item::Then(next) => {
-                state.place = next;
-                state.frames = frames;
-                self.go(walk, state)
+    /// Takes the first of two ways, if it may be that one, and leaves the second for later, if it may be that one.
+    fn choose(&mut self, state: &mut State, first: Way, second: Way) -> Result<Outcome, NoMemory> {
+        let kind = self.kind_in(state.at, state.node);
+        let is_second = has_kind(second.kinds, kind);
+        if has_kind(first.kinds, kind) {
+            if is_second {
+                let mut other = *state;
+                other.site = second.site;
+                self.leave(other)?;
             }
-            Item::Bottom => {
-                if self.is_refused(input, state) {
-                    self.done(walk)
-                } else {
-                    self.back(walk)
-                }
-            }
-            _ => self.back(walk),
+            self.choices.push(0)?;
+            state.site = first.site;
+            return Ok(Outcome::On);
         }
+        if !is_second {
+            return Ok(Outcome::Back);
+        }
+        self.choices.push(1)?;
+        state.site = second.site;
+        Ok(Outcome::On)
+    }
+
+    /// Goes past a test, which is decided at the end of the row.
+    fn guard(&mut self, state: &mut State, guard: u16) -> Result<Outcome, NoMemory> {
+        let test = Item::Guard(guard, self.token(state.at));
+        state.guards = self.lists.put(test, state.guards)?;
+        Ok(Outcome::On)
     }
 
     /// Whether the tests that a walk came past do not hold.
-    fn is_refused(&self, input: &Input, state: State) -> bool {
+    fn is_refused(&self, input: &Input, state: &State) -> bool {
         let end = self.token(state.at);
         let mut guards = state.guards;
         'guards: for _ in 0..u64::MAX {
             let (Item::Guard(guard, token), rest) = self.lists.first(guards) else {
                 return true;
             };
-            if !is_refused(input, token, end, guard) {
+            if !is_refused(input, token, end, usize::from(guard)) {
                 return false;
             }
             guards = rest;
@@ -398,183 +407,216 @@ impl Search {
         false
     }
 
-    /// Writes down the choices of a walk.
-    fn keep_moves(&mut self, moves: usize) -> Result<(), NoMemory> {
-        let mut taken = Vec::new(self.alloc);
-        let mut list = moves;
-        'taken: for _ in 0..u64::MAX {
-            let (Item::Move(choice), rest) = self.lists.first(list) else {
-                break 'taken;
-            };
-            taken.push(choice)?;
-            list = rest;
+    /// Ends a row.
+    fn end(&self, input: &Input, state: &State) -> Outcome {
+        if state.guards == 0 || self.is_refused(input, state) {
+            Outcome::Done
+        } else {
+            Outcome::Back
         }
-        'moves: for _ in 0..u64::MAX {
-            let Some(choice) = taken.pop() else {
-                break 'moves;
-            };
-            self.moves.push(choice)?;
+    }
+
+    /// Goes past a token of one of these kinds, which is read as one of these words.
+    fn token_step(&mut self, input: &Input, state: &mut State, kinds: u16, words: u16) -> Outcome {
+        let element = self.elements.at(state.at);
+        let is_one = has_kind(kinds, u16::from(element.kind))
+            && input.kind(element.token) == element.kind
+            && has_word(
+                usize::from(words),
+                u16::from(input.contextual_kind(element.token)),
+            );
+        self.leaf(state, is_one)
+    }
+
+    /// Goes past an identifier that is taken as this word.
+    fn word(&mut self, input: &Input, state: &mut State, word: u16) -> Outcome {
+        let element = self.elements.at(state.at);
+        let is_one = u16::from(element.kind) == word && is_word(input, element.token, word);
+        self.leaf(state, is_one)
+    }
+
+    /// Goes past the tokens of an operator.
+    fn operator(&mut self, input: &Input, state: &mut State, operator: u16) -> Outcome {
+        let element = self.elements.at(state.at);
+        let is_one = u16::from(element.kind) == operator
+            && operator_end(self.alloc, input, element.token, operator).is_some();
+        self.leaf(state, is_one)
+    }
+
+    /// Goes one site further along a row.
+    fn step(&mut self, input: &Input, walk: &mut Walk) -> Result<Outcome, NoMemory> {
+        let site = site_at(walk.state.site);
+        match site {
+            Site::End => Ok(self.end(input, &walk.state)),
+            Site::Choice(first, second) => self.choose(&mut walk.state, first, second),
+            Site::Category(number, next) => {
+                walk.state.site = next;
+                self.category(walk, number)
+            }
+            Site::Repeat(turn, last, next) => {
+                walk.state.site = next;
+                self.repeat(walk, turn, last)
+            }
+            Site::Group(way, next) => {
+                walk.state.site = next;
+                self.group(walk, way)
+            }
+            Site::Folds(number, turns, next) => {
+                walk.state.site = next;
+                self.folds(walk, number, turns)
+            }
+            Site::Turn(_, _, _, _) => Ok(Outcome::Back),
+            _ => self.step_in(input, &mut walk.state, site),
         }
-        Ok(())
+    }
+
+    /// Goes one site further, without a question.
+    fn step_in(
+        &mut self,
+        input: &Input,
+        state: &mut State,
+        site: Site,
+    ) -> Result<Outcome, NoMemory> {
+        match site {
+            Site::Start(kind, next) => {
+                state.site = next;
+                Ok(self.start(state, kind))
+            }
+            Site::StartAround(kind, next) => {
+                state.site = next;
+                self.start_around(state, kind)
+            }
+            Site::Inside(kinds, next) => {
+                state.site = next;
+                self.inside(state, kinds)?;
+                Ok(Outcome::On)
+            }
+            Site::Close(next) => {
+                state.site = next;
+                Ok(self.close(state))
+            }
+            Site::CloseAround(next) => {
+                state.site = next;
+                Ok(self.close_around(state))
+            }
+            Site::Token(kinds, words, next) => {
+                state.site = next;
+                Ok(self.token_step(input, state, kinds, words))
+            }
+            Site::Word(word, next) => {
+                state.site = next;
+                Ok(self.word(input, state, word))
+            }
+            Site::Operator(operator, next) => {
+                state.site = next;
+                Ok(self.operator(input, state, operator))
+            }
+            Site::Guard(guard, next) => {
+                state.site = next;
+                self.guard(state, guard)
+            }
+            _ => Ok(Outcome::Back),
+        }
     }
 
     /// Answers a question by a walk that is at its end.
-    fn done(&mut self, walk: Walk) -> Result<(), NoMemory> {
-        let question = walk.question;
+    fn done(&mut self, walk: &Walk) -> Result<Answer, NoMemory> {
+        let question = self.memo.question(walk.entry);
         let start = self.token(question.at);
         let end = self.token(walk.state.at);
         let claim = match question.wanted {
-            Wanted::Category(number) => Claim::Category(number, walk.row, start, end),
-            Wanted::Row(place) => Claim::Row(place, start, end),
-            Wanted::Turn(place) => Claim::Turn(place, start, end),
-            Wanted::Turns(_, _) | Wanted::Folds(_, _) => return Ok(()),
+            Wanted::Category(number) => {
+                Claim::Category(number, usize::from(row_at(walk.row).number), start, end)
+            }
+            Wanted::Row(place) => Claim::Row(usize::from(place), start, end),
+            Wanted::Turn(place) => Claim::Turn(usize::from(place), start, end),
+            Wanted::Turns(_, _) | Wanted::Folds(_, _) => return Ok(Answer::Nothing),
         };
-        self.keep_moves(walk.state.moves)?;
+        'moves: for i in walk.choices..self.choices.len() {
+            self.moves.push(self.choices[i])?;
+        }
         self.forget(walk);
         let fact = self.claim(claim)?;
-        self.memo
-            .settle(question, Answer::Fact(fact, walk.state.at))
+        let answer = Answer::Fact(fact, walk.state.at);
+        self.memo.settle(walk.entry, answer);
+        Ok(answer)
     }
 
-    /// Goes past the nodes around the one before.
-    fn folds(
-        &mut self,
-        walk: Walk,
-        number: u16,
-        turns: usize,
-        next: usize,
-    ) -> Result<(), NoMemory> {
-        let state = walk.state;
-        let (Item::Around(around, limit), frames) = self.lists.first(state.frames) else {
-            return self.back(walk);
-        };
-        let Some(outermost) = self.outermost(around, state.at) else {
-            return self.back(walk);
-        };
-        let question = Question {
-            wanted: Wanted::Folds(turns, number),
-            at: state.at,
-            limit: outermost,
-        };
-        match self.memo.answer(question) {
-            Answer::Unasked => self.ask(Task::Walk(walk), question, around),
-            Answer::Nothing => self.back(walk),
-            Answer::Fact(fact, at) => {
-                let mut walk = walk;
-                walk.state.limit = limit;
-                walk.state.frames = frames;
-                self.past(walk, fact, at, next)
-            }
-        }
-    }
-
-    /// The outermost of the nodes around an element that ends here; nothing where none ends here.
-    fn outermost(&self, around: usize, at: usize) -> Option<usize> {
-        let (Item::Node(inner), rest) = self.lists.first(around) else {
-            return Some(usize::MAX);
-        };
-        if self.elements.at(inner.saturating_add(1)).behind != at {
-            return None;
-        }
-        let mut outermost = inner;
-        let mut list = rest;
-        'nodes: for _ in 0..u64::MAX {
-            let (Item::Node(node), rest) = self.lists.first(list) else {
-                return Some(outermost);
-            };
-            outermost = node;
-            list = rest;
-        }
-        None
-    }
-
-    /// Goes past a test, which is decided at the end of the row.
-    fn guard(&mut self, walk: Walk, guard: usize, next: usize) -> Result<(), NoMemory> {
-        let mut state = walk.state;
-        let token = self.token(state.at);
-        let test = Item::Guard(guard, token);
-        state.guards = self.lists.put(test, state.guards)?;
-        state.place = next;
-        self.go(walk, state)
-    }
-
-    /// Goes past a category, or down to what nodes stand around where turns come behind it.
-    fn category_step(&mut self, walk: Walk, number: u16, next: usize) -> Result<(), NoMemory> {
-        match turns_at(next) {
-            Some(turns) if !walk.state.is_inside => self.inside(walk, turns),
-            _ => self.by_fact(walk, Wanted::Category(number), next),
-        }
-    }
-
-    /// Goes one part further along a row.
-    fn step(&mut self, input: &Input, walk: Walk) -> Result<(), NoMemory> {
-        let Some(part) = part_at(walk.state.place) else {
-            return self.back(walk);
-        };
-        match part {
-            Part::End => self.end(input, walk),
-            Part::Start(next) => self.start(walk, next),
-            Part::Close(kind, next) => self.close(walk, kind, next),
-            Part::Choice(first, second, next) => self.choose(walk, first, second, next),
-            Part::Category(number, next) => self.category_step(walk, number, next),
-            Part::Group(row, next) => self.by_fact(walk, Wanted::Row(row), next),
-            Part::Repeat(turn, last, next) => {
-                self.by_fact(walk, Wanted::Turns(turn, last), next)
-            }
-            Part::Folds(number, turns, next) => self.folds(walk, number, turns, next),
-            Part::Guard(guard, next) => self.guard(walk, guard, next),
-            Part::Turn(_, _, _) => self.back(walk),
-            Part::Token(_, _, _) | Part::Word(_, _) | Part::Operator(_, _) => {
-                self.token_step(input, walk, part)
-            }
-        }
-    }
-
-    /// Goes past a token, if it is as the row asks.
-    fn token_step(&mut self, input: &Input, walk: Walk, part: Part) -> Result<(), NoMemory> {
-        let element = self.elements.at(walk.state.at);
-        let kind = u16::from(element.kind);
-        match part {
-            Part::Token(kinds, words, next) => {
-                let is_one = input.kind(element.token) == element.kind
-                    && is_token(input, element.token, kinds, words);
-                self.leaf(walk, is_one, next)
-            }
-            Part::Word(word, next) => {
-                let is_one = kind == word && is_word(input, element.token, word);
-                self.leaf(walk, is_one, next)
-            }
-            Part::Operator(operator, next) => {
-                let is_one = kind == operator
-                    && operator_end(self.alloc, input, element.token, operator).is_some();
-                self.leaf(walk, is_one, next)
-            }
-            _ => self.back(walk),
-        }
-    }
-
-    /// Answers a question, and with it those that it leads to.
-    pub(crate) fn answer(&mut self, input: &Input, question: Question) -> Result<Answer, NoMemory> {
-        if let Answer::Unasked = self.memo.answer(question) {
-            self.memo.settle(question, Answer::Nothing)?;
-            let task = self.task(question, 0)?;
-            self.tasks.push(task)?;
-            self.run(input)?;
-        }
-        Ok(self.memo.answer(question))
-    }
-
-    /// Answers all questions that are open.
-    fn run(&mut self, input: &Input) -> Result<(), NoMemory> {
+    /// Goes on with the newest task that waits, and those below it, until one goes on with a walk. Returns the answer if
+    /// none does.
+    fn pass_on(&mut self, walk: &mut Walk, answer: Answer) -> Result<Option<Answer>, NoMemory> {
+        let mut answer = answer;
         'tasks: for _ in 0..u64::MAX {
-            match self.tasks.pop() {
-                None => return Ok(()),
-                Some(Task::Walk(walk)) => self.step(input, walk)?,
-                Some(Task::Turns(turns)) => self.turns_step(turns)?,
-                Some(Task::Folds(folds)) => self.folds_step(folds)?,
+            let going = match self.tasks.pop() {
+                None => return Ok(Some(answer)),
+                Some(Task::Walk(waiting)) => {
+                    *walk = waiting;
+                    if let Outcome::On = self.resume(walk, answer)? {
+                        return Ok(None);
+                    }
+                    if self.back(walk)? {
+                        return Ok(None);
+                    }
+                    Some(Answer::Nothing)
+                }
+                Some(Task::Turns(turns)) => self.turns_step(walk, turns, answer)?,
+                Some(Task::Folds(folds)) => self.folds_step(walk, folds, answer)?,
+            };
+            let Some(next) = going else {
+                return Ok(None);
+            };
+            answer = next;
+        }
+        Ok(Some(Answer::Nothing))
+    }
+
+    /// Goes on along a walk by one site, and if it is at its end with what waits for it. Returns the last answer.
+    fn go_on(&mut self, input: &Input, walk: &mut Walk) -> Result<Option<Answer>, NoMemory> {
+        let answer = match self.step(input, walk)? {
+            Outcome::On => return Ok(None),
+            Outcome::Back => {
+                if self.back(walk)? {
+                    return Ok(None);
+                }
+                Answer::Nothing
+            }
+            Outcome::Done => self.done(walk)?,
+        };
+        self.pass_on(walk, answer)
+    }
+
+    /// Follows a walk up to its end, with all that it leads to. Returns the answer.
+    fn follow(&mut self, input: &Input, walk: Walk) -> Result<Answer, NoMemory> {
+        let mark = self.lists.mark();
+        let mut walk = walk;
+        'steps: for _ in 0..u64::MAX {
+            if let Some(answer) = self.go_on(input, &mut walk)? {
+                self.lists.release(mark);
+                return Ok(answer);
             }
         }
-        Ok(())
+        Ok(Answer::Nothing)
+    }
+
+    /// Answers whether a category derives what stands from an element on, and with it all that this leads to.
+    pub(crate) fn answer_category(
+        &mut self,
+        input: &Input,
+        category: u16,
+        at: usize,
+    ) -> Result<Answer, NoMemory> {
+        let node = self.elements.at(at).parent;
+        let Some(row) = first_row(category, self.kind_in(at, node)) else {
+            return Ok(Answer::Nothing);
+        };
+        let question = self.question(Wanted::Category(category), at, node);
+        match self.memo.answer(question) {
+            Answer::Unasked => {
+                let walk = self.begin(question, node, row_at(row).site, row)?;
+                self.follow(input, walk)
+            }
+            answer => Ok(answer),
+        }
     }
 }
 
@@ -587,6 +629,9 @@ pub(crate) fn new_search(alloc: Global, elements: Elements) -> Result<Search, No
         memo,
         lists,
         states: Vec::new(alloc),
+        choices: Vec::new(alloc),
+        turned: Vec::new(alloc),
+        folded: Vec::new(alloc),
         tasks: Vec::new(alloc),
         claims: Vec::new(alloc),
         moves: Vec::new(alloc),
@@ -610,7 +655,8 @@ pub fn find_derivation(
         limit: elements.len(),
     };
     let mut search = new_search(alloc, elements)?;
-    search.answer(input, question)?;
+    let walk = search.begin(question, 0, 0, usize::MAX)?;
+    search.follow(input, walk)?;
     let Search { claims, moves, .. } = search;
     Ok(Derivation { claims, moves })
 }

@@ -51,7 +51,7 @@ pub fn contains(number: usize, value: u16) -> bool
 }
 
 /// Whether a word is one of those that a token may be read as.
-fn has_word(words: usize, value: u16) -> bool
+pub fn has_word(words: usize, value: u16) -> bool
     ensures { IsTrue result → within (words_in words sets) value ≡ true }
 {
     words == 0 || contains(words - 1, value)

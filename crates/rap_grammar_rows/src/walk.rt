@@ -17,18 +17,24 @@ use crate::tokens::{is_token, is_word, operator_end};
 use rap_base::no_memory::NoMemory;
 use rap_events::input::Input;
 use std::alloc::Global;
+use std::mem::replace;
 
-/// The choices that a walk makes, in their order.
+/// The choices that walks make, in their order, and room for what a walk comes back to, which one walk leaves to the next.
 #[derive(Drop)]
 pub struct Moves<'m> {
     moves: &'m [usize],
     next: usize,
+    room: Vec<Frame>,
 }
 
 impl<'m> Moves<'m> {
     /// The choices from the first on.
-    pub fn new(moves: &'m [usize]) -> Moves<'m> {
-        Moves { moves, next: 0 }
+    pub fn new(alloc: Global, moves: &'m [usize]) -> Moves<'m> {
+        Moves {
+            moves,
+            next: 0,
+            room: Vec::new(alloc),
+        }
     }
 
     /// Takes the next choice; past the last one it is 0.
@@ -39,6 +45,20 @@ impl<'m> Moves<'m> {
         let choice = self.moves[self.next];
         self.next += 1;
         choice
+    }
+
+    /// Takes the room for what a walk comes back to, with nothing in it.
+    pub fn take_room(&mut self, alloc: Global) -> Vec<Frame>
+        ensures { result.items ≡ [] }
+    {
+        let mut room = replace(&mut self.room, Vec::new(alloc));
+        room.clear();
+        room
+    }
+
+    /// Leaves room to the next walk.
+    pub fn keep_room(&mut self, room: Vec<Frame>) {
+        self.room = room;
     }
 }
 

@@ -14,6 +14,8 @@ pub struct Element {
     pub token: usize,
     /// The number of the element behind it and all that stands in it.
     pub behind: usize,
+    /// The number of the node that it stands in. Where there is none it is past all others.
+    pub parent: usize,
 }
 
 /// The elements of a tree, the nodes that have not ended yet, and the number of its tokens.
@@ -45,6 +47,7 @@ impl Elements {
     }
 
     /// Returns an element. Past the last one it is an empty leaf.
+    #[inline(always)]
     pub fn at(&self, number: usize) -> Element {
         if number < self.list.len() {
             self.list[number]
@@ -54,18 +57,34 @@ impl Elements {
                 is_node: false,
                 token: self.tokens,
                 behind: number,
+                parent: usize::MAX,
             }
+        }
+    }
+
+    /// Where the list of the elements in a node ends. Past the last element that is the list of all roots.
+    #[inline(always)]
+    pub fn end_of(&self, node: usize) -> usize {
+        if node < self.list.len() {
+            self.list[node].behind
+        } else {
+            self.list.len()
         }
     }
 
     /// Adds an element with nothing in it.
     fn add(&mut self, kind: SyntaxKind, is_node: bool) -> Result<(), NoMemory> {
         let number = self.list.len();
+        let parent = match self.open.as_slice().last() {
+            Some(node) => *node,
+            None => usize::MAX,
+        };
         let element = Element {
             kind,
             is_node,
             token: self.tokens,
             behind: number.saturating_add(1),
+            parent,
         };
         self.list.push(element)?;
         Ok(())
@@ -74,8 +93,9 @@ impl Elements {
     /// Begins a node.
     pub fn begin(&mut self, kind: SyntaxKind) -> Result<(), NoMemory> {
         let number = self.list.len();
+        self.add(kind, true)?;
         self.open.push(number)?;
-        self.add(kind, true)
+        Ok(())
     }
 
     /// Adds a leaf of so many tokens.

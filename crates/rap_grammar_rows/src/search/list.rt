@@ -10,22 +10,10 @@ use std::alloc::Global;
 pub enum Item {
     /// Nothing: below the first one.
     Bottom,
-    /// A way was taken; the parts from this place on stand behind it.
-    Then(usize),
-    /// A node is open; the list that it stands in ends at this element.
-    Opened(usize, usize),
-    /// These nodes stand around the next one; the list of the outermost one ends at this element.
-    Around(usize, usize),
-    /// A node around another one.
-    Node(usize),
-    /// A choice of a walk.
-    Move(usize),
+    /// The outermost of the nodes that stand around an open one.
+    Around(usize),
     /// A test that must not hold before this token.
-    Guard(usize, usize),
-    /// One turn, by its fact, from this element on.
-    Turn(usize, usize),
-    /// For this number the turn that stands so many behind the first one, by its fact.
-    Fold(u16, usize, usize),
+    Guard(u16, usize),
 }
 
 /// An item, and the list behind it.

@@ -1,5 +1,6 @@
 //! What was already asked for, and what was found.
-ghost use Rattle.std.specs.Prelude.{◌≡◌, ◌≢◌, ◌<◌, length, Any, IfSome, OnOk};
+ghost use Rattle.std.specs.Prelude.{◌≡◌, ◌≢◌, ◌<◌, length, slice_get, Any, IfOk, OnOk, Some};
+ghost use Rattle.rap_grammar_rows.specs.declared.search.memo.Entry.{Entry};
 ghost use Rattle.rap_grammar_rows.specs.declared.search.memo.Answer.TheVariants.{Unasked};
 
 use rap_base::no_memory::NoMemory;
@@ -11,13 +12,13 @@ pub enum Wanted {
     /// A category.
     Category(u16),
     /// The row from this place on.
-    Row(usize),
+    Row(u16),
     /// The row from this place on, which ends a node around the one before it.
-    Turn(usize),
+    Turn(u16),
     /// Turns by the row from one place on, and last the row from another place on.
-    Turns(usize, usize),
+    Turns(u16, u16),
     /// Nodes around the one before, by the turns from this place on, the first one for this number.
-    Folds(usize, u16),
+    Folds(u16, u16),
 }
 
 /// A question: what is wanted from an element on, in a list that ends at another one. Where nodes are around the one
@@ -75,58 +76,74 @@ impl Memo {
         }
     }
 
-    /// The number of a question's entry, and the answer in it.
-    fn find(&self, question: Question) -> Option<(usize, Answer)>
-        ensures within { IfSome result (λ found. found.0 < length self.now.entries.items) }
-        ensures found { IfSome result (λ found. Any (λ entry. (entry.question ≡ question) × (entry.answer ≡ found.1)) self.now.entries.items) }
-    {
-        let mut place = self.newest_at(question.at);
-        'entries: for _ in 0..u64::MAX {
-            if place == 0 || place > self.entries.len() {
-                return None;
-            }
-            let entry = self.entries[place - 1];
-            if entry.question == question {
-                return Some((place - 1, entry.answer));
-            }
-            place = entry.older;
-        }
-        None
-    }
-
     /// Returns what was found: an answer was written down for this very question.
     pub fn answer(&self, question: Question) -> Answer
         ensures { result ≢ Unasked → Any (λ entry. (entry.question ≡ question) × (entry.answer ≡ result)) self.now.entries.items }
     {
-        match self.find(question) {
-            Some((_, answer)) => answer,
-            None => Answer::Unasked,
+        let mut place = self.newest_at(question.at);
+        'entries: for _ in 0..u64::MAX {
+            if place == 0 || place > self.entries.len() {
+                return Answer::Unasked;
+            }
+            let entry = self.entries[place - 1];
+            if entry.question == question {
+                return entry.answer;
+            }
+            place = entry.older;
         }
+        Answer::Unasked
     }
 
-    /// Writes an answer down, if the element is one of those that there are entries for.
-    pub fn settle(&mut self, question: Question, answer: Answer) -> Result<(), NoMemory>
-        ensures { question.at < length self.old.newest.items → OnOk result (Any (λ entry. (entry.question ≡ question) × (entry.answer ≡ answer)) self.new.entries.items) }
+    /// Writes down that a question was asked, and an answer, which is found by its element, if that is one of those that
+    /// there are entries for. Returns the number of the entry.
+    pub fn ask(&mut self, question: Question, answer: Answer) -> Result<usize, NoMemory>
+        ensures asked { OnOk result (Any (λ entry. (entry.question ≡ question) × (entry.answer ≡ answer)) self.new.entries.items) }
+        ensures number { IfOk result (λ number. number ≡ length self.old.entries.items) }
     {
-        if let Some((number, _)) = self.find(question) {
-            let older = self.entries[number].older;
+        let older = self.newest_at(question.at);
+        let number = self.entries.len();
+        self.entries.push(Entry {
+            question,
+            answer,
+            older,
+        })?;
+        if question.at < self.newest.len() {
+            self.newest[question.at] = self.entries.len();
+        }
+        Ok(number)
+    }
+
+    /// Writes another answer to a question down, by the number of its entry.
+    pub fn settle(&mut self, number: usize, answer: Answer)
+        ensures { (old : Entry) → slice_get self.old.entries.items number ≡ Some old → Any (λ entry. (entry.question ≡ old.question) × (entry.answer ≡ answer)) self.new.entries.items }
+    {
+        if number < self.entries.len() {
+            let Entry {
+                question,
+                older,
+                ..
+            } = self.entries[number];
             self.entries[number] = Entry {
                 question,
                 answer,
                 older,
             };
-            return Ok(());
         }
-        if question.at < self.newest.len() {
-            let older = self.newest[question.at];
-            self.entries.push(Entry {
-                question,
-                answer,
-                older,
-            })?;
-            let number = self.entries.len();
-            self.newest[question.at] = number;
+    }
+
+    /// Returns the question of an entry, by its number.
+    #[tactic(auto, using(std::proofs::lemmas::Option::get_or_from_slice_get))]
+    pub fn question(&self, number: usize) -> Question
+        ensures { (entry : Entry) → slice_get self.now.entries.items number ≡ Some entry → result ≡ entry.question }
+    {
+        if number < self.entries.len() {
+            self.entries[number].question
+        } else {
+            Question {
+                wanted: Wanted::Row(u16::MAX),
+                at: usize::MAX,
+                limit: usize::MAX,
+            }
         }
-        Ok(())
     }
 }

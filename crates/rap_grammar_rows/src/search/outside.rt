@@ -2,8 +2,8 @@
 ghost use Rattle.std.specs.Prelude.{◌≤◌, length, All, AllPairs, IfOk};
 
 use crate::search::element::elements_of;
-use crate::search::memo::{Answer, Question, Wanted};
-use crate::search::shape::{Root, all_roots, is_begun};
+use crate::search::memo::Answer;
+use crate::search::site::{is_begun, roots_of};
 use crate::search::{Search, new_search};
 use rap_base::no_memory::NoMemory;
 use rap_base::syntax_kind::SyntaxKind;
@@ -20,43 +20,15 @@ pub struct Outside {
 }
 
 impl Search {
-    /// Whether a category derives a node, in a list that ends at an element.
-    fn is_of(
-        &mut self,
-        input: &Input,
-        category: u16,
-        at: usize,
-        limit: usize,
-    ) -> Result<bool, NoMemory> {
-        let question = Question {
-            wanted: Wanted::Category(category),
-            at,
-            limit,
-        };
-        match self.answer(input, question)? {
-            Answer::Fact(_, end) => Ok(end == self.elements.at(at).behind),
-            Answer::Unasked | Answer::Nothing => Ok(false),
-        }
-    }
-
-    /// Whether an element is a leaf, or a node that some category derives, in a list that ends at another one.
-    fn is_derived(
-        &mut self,
-        input: &Input,
-        roots: &[Root],
-        at: usize,
-        limit: usize,
-    ) -> Result<bool, NoMemory> {
+    /// Whether an element is a leaf, or a node that some category derives.
+    fn is_derived(&mut self, input: &Input, at: usize) -> Result<bool, NoMemory> {
         let element = self.elements.at(at);
         if !element.is_node {
             return Ok(true);
         }
-        let kind = u16::from(element.kind);
-        'roots: for i in 0..roots.len() {
-            let root = roots[i];
-            if root.kind == kind {
-                let is_one = self.is_of(input, root.category, at, limit)?;
-                if is_one {
+        'roots: for category in roots_of(u16::from(element.kind)) {
+            if let Answer::Fact(_, end) = self.answer_category(input, *category, at)? {
+                if end == element.behind {
                     return Ok(true);
                 }
             }
@@ -65,25 +37,18 @@ impl Search {
     }
 
     /// The nodes that no category derives, but those in nodes that one does; each stands before what is in it.
-    fn failed(&mut self, input: &Input, roots: &[Root]) -> Result<Vec<usize>, NoMemory> {
+    fn failed(&mut self, input: &Input) -> Result<Vec<usize>, NoMemory> {
         let mut failed = Vec::new(self.alloc);
-        let mut limits = Vec::new(self.alloc);
         let mut at = 0;
-        limits.push(self.elements.len())?;
         'elements: for _ in 0..u64::MAX {
-            let Some(limit) = limits.pop() else {
+            if at >= self.elements.len() {
                 break 'elements;
-            };
-            if at < limit {
-                limits.push(limit)?;
-                let element = self.elements.at(at);
-                if self.is_derived(input, roots, at, limit)? {
-                    at = element.behind;
-                } else {
-                    failed.push(at)?;
-                    limits.push(element.behind)?;
-                    at = at.saturating_add(1);
-                }
+            }
+            if self.is_derived(input, at)? {
+                at = self.elements.at(at).behind;
+            } else {
+                failed.push(at)?;
+                at = at.saturating_add(1);
             }
         }
         Ok(failed)
@@ -104,12 +69,7 @@ impl Search {
     }
 
     /// Of nodes that no category derives the smallest; the last one comes first. Of so many tokens none is in two.
-    fn smallest(
-        &self,
-        roots: &[Root],
-        failed: Vec<usize>,
-        tokens: usize,
-    ) -> Result<Vec<Outside>, NoMemory>
+    fn smallest(&self, failed: Vec<usize>, tokens: usize) -> Result<Vec<Outside>, NoMemory>
         ensures within { IfOk result (λ nodes. All (λ node. (node.start ≤ node.end) × (node.end ≤ tokens)) nodes.items) }
         ensures apart { IfOk result (λ nodes. AllPairs (λ later node. node.end ≤ later.start) nodes.items) }
     {
@@ -123,7 +83,7 @@ impl Search {
             };
             let element = self.elements.at(at);
             let is_first = at == 0 && found.is_empty();
-            if element.behind <= newest && (is_first || is_begun(roots, u16::from(element.kind))) {
+            if element.behind <= newest && (is_first || is_begun(u16::from(element.kind))) {
                 let node = self.node(at, limit);
                 newest = at;
                 limit = node.start;
@@ -145,7 +105,6 @@ pub fn find_outside(alloc: Global, input: &Input, output: &Output) -> Result<Vec
 {
     let elements = elements_of(alloc, output)?;
     let mut search = new_search(alloc, elements)?;
-    let roots = all_roots(alloc)?;
-    let failed = search.failed(input, roots.as_slice())?;
-    search.smallest(roots.as_slice(), failed, input.len())
+    let failed = search.failed(input)?;
+    search.smallest(failed, input.len())
 }
