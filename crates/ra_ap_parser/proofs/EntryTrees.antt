@@ -18,6 +18,7 @@ use Rattle.rap_grammar_table.specs.Again.{MakesIn, category_in, parsed_again}
 use Rattle.rap_grammar_table.proofs.Again.{made_again}
 use Rattle.rap_grammar_table.proofs.Fronts.{anchored_path_front, block_front, expr_front, global_path_front, item_front, last_stmt_front, meta_front, path_front, pattern_front, single_front, stmt_front, type_front, visibility_front}
 use Rattle.rap_grammar_table.proofs.ByKind.{sees_other_behind}
+use Rattle.rap_grammar_table.specs.Known.{later_way}
 use Rattle.rap_grammar.proofs.Prefixes.{front_of_table, front_part}
 use Rattle.ra_ap_parser.specs.Reparsed.{IsAgainItself}
 use Rattle.ra_ap_parser.specs.EntryScript.{IsOutputOf, IsCore, KeepsFront, IsPrefixOutputOf, IsPrefixCore, WrapsPrefix}
@@ -130,7 +131,8 @@ prefix_core prefix.PatTop input h i ks l t e d = front_of_table ks l (rw e at i)
 prefix_core prefix.Ty input h i ks l t e d = front_of_table ks l (rw e at i) d.0 (type_front d)
 prefix_core prefix.Expr input h i ks l t e d = front_of_table ks l (rw e at i) d.0 (expr_front d)
 prefix_core prefix.Path input h i ks l t e (inl d) = front_of_table ks l (rw e at i) d.0 (path_front d)
-prefix_core prefix.Path input h i ks l t e (inr (inl d)) = front_of_table ks l (rw e at i) d.0 (global_path_front d)
+prefix_core prefix.Path input h i ks l t e (inr (inl d)) =
+    front_of_table ks l (rw e at i) d.0 (global_path_front (d.0, later_way d.1))
 prefix_core prefix.Path input h i ks l t e (inr (inr d)) = front_of_table ks l (rw e at i) d.0 (anchored_path_front d)
 prefix_core prefix.Item input h i ks l t e d =
     front_of_table ks l (rw e at i) d.0 (item_front (d.0, sees_other_behind SEMICOLON ks l (rw e at h) d.1))
