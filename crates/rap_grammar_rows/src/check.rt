@@ -362,7 +362,7 @@ fn all_checked(
     // For the proof: it fits its type.
     let _tokens = input.len();
     let mut moves = Moves::new(alloc, moves);
-    let mut facts = Vec::new(alloc);
+    let mut facts = Vec::with_capacity(alloc, claims.len())?;
     'claims: for claim in claims {
         let Some(fact) = checked(alloc, input, &facts, *claim, &mut moves)? else {
             return Ok(None);

@@ -172,23 +172,21 @@ impl Search {
         Ok(number)
     }
 
-    /// Answers whether a row derives what comes in a node, if that is known without a walk.
+    /// Answers whether a row derives what comes in a node, if that is known without a walk. An empty row is not kept:
+    /// it takes as long to look it up.
     pub(crate) fn row(&mut self, way: Way, at: usize, node: usize) -> Result<Answer, NoMemory> {
         if !has_kind(way.kinds, self.kind_in(at, node)) {
             return Ok(Answer::Nothing);
         }
-        let question = self.question(Wanted::Row(way.site), at, node);
-        let answer = self.memo.answer(question);
-        match (answer, site_at(way.site)) {
-            (Answer::Unasked, Site::End) => {
-                let token = self.token(at);
-                let fact = self.claim(Claim::Row(usize::from(way.site), token, token))?;
-                let empty = Answer::Fact(fact, at);
-                self.memo.ask(question, empty)?;
-                Ok(empty)
-            }
-            _ => Ok(answer),
+        if let Site::End = site_at(way.site) {
+            let token = self.token(at);
+            let fact = self.claim(Claim::Row(usize::from(way.site), token, token))?;
+            return Ok(Answer::Fact(fact, at));
         }
+        Ok(
+            self.memo
+                .answer(self.question(Wanted::Row(way.site), at, node)),
+        )
     }
 
     /// Goes back to the last way that a walk left out, or to the next row of its category. Whether there was one.
@@ -624,6 +622,8 @@ impl Search {
 pub(crate) fn new_search(alloc: Global, elements: Elements) -> Result<Search, NoMemory> {
     let memo = Memo::new(alloc, elements.len())?;
     let lists = Lists::new(alloc)?;
+    // Few texts need more.
+    let room = elements.len().saturating_add(elements.len() / 4);
     Ok(Search {
         elements,
         memo,
@@ -633,8 +633,8 @@ pub(crate) fn new_search(alloc: Global, elements: Elements) -> Result<Search, No
         turned: Vec::new(alloc),
         folded: Vec::new(alloc),
         tasks: Vec::new(alloc),
-        claims: Vec::new(alloc),
-        moves: Vec::new(alloc),
+        claims: Vec::with_capacity(alloc, room)?,
+        moves: Vec::with_capacity(alloc, room)?,
         alloc,
     })
 }

@@ -364,6 +364,7 @@ impl Walk {
     }
 
     /// Goes one part further.
+    #[inline(always)]
     pub fn step(
         &mut self,
         alloc: Global,

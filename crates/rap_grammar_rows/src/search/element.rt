@@ -27,13 +27,13 @@ pub struct Elements {
 }
 
 impl Elements {
-    /// No elements.
-    pub fn new(alloc: Global) -> Elements {
-        Elements {
-            list: Vec::new(alloc),
+    /// No elements, with room for so many.
+    pub fn with_capacity(alloc: Global, elements: usize) -> Result<Elements, NoMemory> {
+        Ok(Elements {
+            list: Vec::with_capacity(alloc, elements)?,
             open: Vec::new(alloc),
             tokens: 0,
-        }
+        })
     }
 
     /// How many elements there are.
@@ -121,8 +121,9 @@ impl Elements {
 
 /// Returns the elements of a tree, without its messages. A float that is taken apart is one leaf, of no row.
 pub fn elements_of(alloc: Global, output: &Output) -> Result<Elements, NoMemory> {
-    let mut elements = Elements::new(alloc);
-    'steps: for step in output.iter() {
+    let steps = output.iter();
+    let mut elements = Elements::with_capacity(alloc, steps.len())?;
+    'steps: for step in steps {
         match step {
             Step::Enter { kind } => elements.begin(kind)?,
             Step::Token {

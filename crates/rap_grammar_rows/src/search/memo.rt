@@ -56,14 +56,11 @@ pub struct Memo {
 }
 
 impl Memo {
-    /// No questions, for so many elements.
+    /// No questions, for so many elements, with room for one of each.
     pub fn new(alloc: Global, elements: usize) -> Result<Memo, NoMemory> {
         let mut newest = Vec::new(alloc);
-        'elements: for _ in 0..elements {
-            newest.push(0)?;
-        }
-        newest.push(0)?;
-        let entries = Vec::new(alloc);
+        newest.resize(elements.saturating_add(1), 0)?;
+        let entries = Vec::with_capacity(alloc, elements)?;
         Ok(Memo { newest, entries })
     }
 

@@ -217,32 +217,31 @@ impl Search {
             walk.state.node = self.elements.at(outermost).parent;
         }
         walk.state.outermost = NONE;
+        if left == 0 {
+            let answer = self.no_folds(at, turns, number)?;
+            return self.resume(walk, answer);
+        }
         let question = Question {
             wanted: Wanted::Folds(turns, number),
             at,
-            limit: if left == 0 { NONE } else { outermost },
+            limit: outermost,
         };
-        match self.memo.answer(question) {
-            Answer::Unasked if left == 0 => {
-                let answer = self.no_folds(question, turns, number)?;
-                self.resume(walk, answer)
-            }
-            Answer::Unasked => {
-                let folds = Folds {
-                    entry: self.memo.ask(question, Answer::Nothing)?,
-                    number,
-                    first: turns,
-                    place: turns,
-                    skips: 0,
-                    at,
-                    outermost,
-                    left,
-                    below: self.folded.len(),
-                };
-                self.fold_first(walk, folds)
-            }
-            answer => self.resume(walk, answer),
-        }
+        let answer = self.memo.answer(question);
+        let Answer::Unasked = answer else {
+            return self.resume(walk, answer);
+        };
+        let folds = Folds {
+            entry: self.memo.ask(question, Answer::Nothing)?,
+            number,
+            first: turns,
+            place: turns,
+            skips: 0,
+            at,
+            outermost,
+            left,
+            below: self.folded.len(),
+        };
+        self.fold_first(walk, folds)
     }
 
     /// Begins to look for turns that put the nodes around one.
@@ -258,18 +257,11 @@ impl Search {
         }
     }
 
-    /// Answers that no node is around the one before.
-    fn no_folds(
-        &mut self,
-        question: Question,
-        turns: u16,
-        number: u16,
-    ) -> Result<Answer, NoMemory> {
-        let token = self.token(question.at);
+    /// Answers that no node is around the one before. This is not kept: it takes as long to look it up.
+    fn no_folds(&mut self, at: usize, turns: u16, number: u16) -> Result<Answer, NoMemory> {
+        let token = self.token(at);
         let fact = self.claim(Claim::NoFold(usize::from(turns), number, token))?;
-        let answer = Answer::Fact(fact, question.at);
-        self.memo.ask(question, answer)?;
-        Ok(answer)
+        Ok(Answer::Fact(fact, at))
     }
 
     /// The node that comes next.
