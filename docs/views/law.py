@@ -10,11 +10,11 @@ from views.fields import Field, Node, Views, shapes
 WIDTH = 120
 # The fields that have a name in Field.antt.
 COMMON = ('attrs', 'doc_comments')
-# Which part of the children a place means, of the first and of the last child of a field.
+# Which part of the children a place means, of the first and of the last child of a field; and where that child is looked
+# for before the first child of another field.
 CUTS = {('before', 'first'): 'until', ('before', 'last'): 'until_last', ('only_before', 'first'): 'only_until',
         ('after', 'first'): 'behind', ('past', 'first'): 'past'}
-# The fields whose places are no such parts: behind a child if it stands before another one, and anywhere if not.
-UNPLACED = [('TYPE_ALIAS', 'trailing_where_clause')]
+BEFORE = {('past', 'first'): 'past_before'}
 AMOUNTS = {(1, 1): 'exactly_one', (0, 1): 'at_most_one', (0, None): 'any_number', (1, None): 'at_least_one'}
 
 
@@ -61,10 +61,17 @@ class Writer:
         cuts: list[str] = []
         for place in field.places:
             mark = node.field(place.field)
-            form = 'leaf_mark' if mark.is_token else 'node_mark'
-            own = CUTS[place.word, mark.how]
-            cuts += [*self.cuts(node, mark), f'{own}\0({form}\0{self.listed(mark.kinds)})']
+            before = BEFORE.get((place.word, mark.how)) if mark.places else None
+            if before:
+                [(_, other)] = mark.places
+                cuts.append(f'{before}\0{self.mark(mark)}\0{self.mark(node.field(other))}')
+            else:
+                cuts += [*self.cuts(node, mark), f'{CUTS[place.word, mark.how]}\0{self.mark(mark)}']
         return cuts
+
+    def mark(self, field: Field) -> str:
+        """The children of a field as marks."""
+        return f"({'leaf_mark' if field.is_token else 'node_mark'}\0{self.listed(field.kinds)})"
 
     def placed(self, node: Node, field: Field) -> str:
         cuts = '\0∷\0'.join([*self.cuts(node, field), '[]'])
@@ -93,7 +100,7 @@ class Writer:
     def head(self, what: str, uses: Iterable[str], text: str) -> list[str]:
         prelude = ['ℕ', 'List', '[]', '◌∷◌', *(it for it in ('Some', 'None') if re.search(rf'\b{it}\b', text))]
         tokens = {self.views.names[it] for it in self.views.tokens} | {'ERROR'}
-        places = [it for it in ('PlacedField', 'at', *CUTS.values(), 'leaf_mark', 'node_mark')
+        places = [it for it in ('PlacedField', 'at', *CUTS.values(), *BEFORE.values(), 'leaf_mark', 'node_mark')
                   if re.search(rf'^[^-].*\b{it}\b', text, re.M)]
         found = [('std.specs.Prelude', prelude), ('rap_base.specs.NodeKind', self.kinds - tokens),
                  ('rap_base.specs.TokenKind', self.kinds & tokens), ('rap_fields.specs.Field', uses),
@@ -126,7 +133,7 @@ def placed_lines(views: Views, _said: dict[str, str]) -> list[str]:
     writer = Writer(views)
     rows, said = {}, {}
     for node in views.nodes:
-        fields = [it for it in node.nodes if it.places and (node.name, it.name) not in UNPLACED]
+        fields = [it for it in node.nodes if it.places]
         if fields:
             rows[node.name] = [writer.placed(node, it) for it in fields]
             said[node.name] = ' '.join(it.name for it in fields)

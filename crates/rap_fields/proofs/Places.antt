@@ -3,12 +3,12 @@ use Rattle.std.proofs.Common.{◌≡◌, ◌==◌, ◌&&◌, ◌||◌, ℕ, Bool
 use Rattle.rap_events.proofs.Truth.{and_left, and_right, or_left, or_right}
 use Rattle.rap_fields.specs.Field.{Field, Fills}
 use Rattle.rap_fields.specs.Filled.{IsOne, PlacedFieldsAreFilled, first, later}
-use Rattle.rap_fields.specs.Place.{Cut, Mark, PlacedField, before_first, before_last, behind, behind_first, cut, has_mark, is_mark, leaf_mark, node_mark, only_until, part, past, until, until_last}
+use Rattle.rap_fields.specs.Place.{Cut, Mark, PlacedField, before_first, before_last, behind, behind_first, cut, has_mark, is_mark, leaf_mark, node_mark, only_until, part, past, past_before, until, until_last}
 use Rattle.rap_fields.specs.PlacedRows.{placed}
 use Rattle.rap_fields.proofs.Filled.{fills, fits}
 use Rattle.rap_grammar_shapes.specs.Shapes.{shape_of}
 use Rattle.rap_grammar_table.specs.Known.{among}
-use Rattle.rap_grammar_table.specs.Shapes.{Child, leaf_child, node_child, Shape, nothing, leaf_of, any_leaf, node_of, a_float, ◌⋅◌, ◌or◌, any_of, Spells, no_child, a_leaf, some_leaf, a_node, the_float, in_order, by_first, by_second, no_more, one_more}
+use Rattle.rap_grammar_table.specs.Shapes.{Child, leaf_child, node_child, message_child, float_child, Shape, nothing, leaf_of, any_leaf, node_of, a_float, ◌⋅◌, ◌or◌, any_of, Spells, no_child, a_leaf, some_leaf, a_node, the_float, in_order, by_first, by_second, no_more, one_more}
 use Rattle.rap_grammar_table.proofs.Known.{by_or, same_number}
 
 -- Truth values.
@@ -507,12 +507,106 @@ empty_so : (a : Option Shape) (cs : List Child) → SpellsSome a cs → SpellsSo
 empty_so None cs s = absurd s
 empty_so (Some a) cs s = no_child
 
+-- Where no mark stands before the first of other marks: what stands before that, one such mark, and what stands behind.
+abbrev mark_shape : Mark → Shape
+mark_shape (leaf_mark ks) = leaf_of ks
+mark_shape (node_mark ks) = node_of ks
+
+abbrev unmarked : Mark → Option Shape → Option Shape
+unmarked m None = None
+unmarked m (Some s) = without m s
+
+abbrev none_before : Mark → Mark → Shape → Option Shape
+none_before m n s = in_row (unmarked m (front n s)) (in_row (Some (mark_shape n)) (back n s))
+
+unmarked_so : (m : Mark) (o : Option Shape) (cs : List Child) → SpellsSome o cs → has_mark m cs ≡ false
+    → SpellsSome (unmarked m o) cs
+unmarked_so m None cs s h = absurd s
+unmarked_so m (Some s) cs t h = without_so m t h
+
+mark_so : (m : Mark) (c : Child) → is_mark m c ≡ true → Spells (mark_shape m) (c ∷ [])
+mark_so (leaf_mark ks) (leaf_child k) h = a_leaf h
+mark_so (leaf_mark ks) (node_child k) h = absurd cc
+mark_so (leaf_mark ks) message_child h = absurd cc
+mark_so (leaf_mark ks) float_child h = absurd cc
+mark_so (node_mark ks) (leaf_child k) h = absurd cc
+mark_so (node_mark ks) (node_child k) h = a_node h
+mark_so (node_mark ks) message_child h = absurd cc
+mark_so (node_mark ks) float_child h = absurd cc
+
+-- the first mark among some children, and what stands before and behind it
+record FirstMark (m : Mark) (cs : List Child) : Type 0 where
+  one : Child
+  is_one : is_mark m one ≡ true
+  whole : cs ≡ before_first m cs ++ (one ∷ behind_first m cs)
+
+first_mark : (m : Mark) (cs : List Child) → has_mark m cs ≡ true → FirstMark m cs
+first_mark m [] h = absurd cc
+first_mark m (c ∷ cs) h =
+    by_bool (is_mark m c)
+    (λ e.
+    record {
+      one = c;
+      is_one = e;
+      whole =
+          sym
+          (ap (λ (l : List Child). l ++ (c ∷ behind_first m (c ∷ cs))) (if_true (is_mark m c) [] (c ∷ before_first m cs) e)
+          ∙ ap (λ (l : List Child). c ∷ l) (if_true (is_mark m c) cs (behind_first m cs) e));
+    })
+    (λ e.
+    let r = first_mark m cs (or_rest (is_mark m c) (has_mark m cs) e h) in
+    record {
+      one = r.one;
+      is_one = r.is_one;
+      whole =
+          ap (λ (l : List Child). c ∷ l) r.whole
+          ∙ sym
+          (ap (λ (l : List Child). l ++ (r.one ∷ behind_first m (c ∷ cs)))
+          (if_false (is_mark m c) [] (c ∷ before_first m cs) e)
+          ∙ ap (λ (l : List Child). c ∷ before_first m cs ++ (r.one ∷ l))
+          (if_false (is_mark m c) cs (behind_first m cs) e));
+    })
+
+none_before_so : (m n : Mark) {s : Shape} {cs : List Child} → Spells s cs → has_mark m (before_first n cs) ≡ false
+    → SpellsSome (either (none_before m n s) (without m s)) cs
+none_before_so m n {s = s} {cs = cs} t h =
+    by_bool (has_mark n cs)
+    (λ e.
+    let r = first_mark n cs e in
+    either_first (none_before m n s) (without m s) cs
+    (subst (λ (l : List Child). SpellsSome (none_before m n s) l) (sym r.whole)
+    (row_so (unmarked m (front n s)) (in_row (Some (mark_shape n)) (back n s)) (before_first n cs)
+    (r.one ∷ behind_first n cs) (unmarked_so m (front n s) (before_first n cs) (front_so n t e) h)
+    (row_so (Some (mark_shape n)) (back n s) (r.one ∷ []) (behind_first n cs) (mark_so n r.one r.is_one)
+    (back_so n t e)))))
+    (λ e.
+    either_second (none_before m n s) (without m s) cs
+    (without_so m t (subst (λ (l : List Child). has_mark m l ≡ false) (first_none n cs e) h)))
+
+-- a mark that stands before others is one of all
+some_before : (m n : Mark) (cs : List Child) → has_mark m (before_first n cs) ≡ true → has_mark m cs ≡ true
+some_before m n [] h = absurd cc
+some_before m n (c ∷ cs) h =
+    by_bool (is_mark n c)
+    (λ e. no_mark (subst (λ (l : List Child). has_mark m l ≡ true) (if_true (is_mark n c) [] (c ∷ before_first n cs) e) h))
+    (λ e.
+    here_or_later (is_mark m c) (has_mark m (before_first n cs)) (has_mark m cs) (some_before m n cs)
+    (subst (λ (l : List Child). has_mark m l ≡ true) (if_false (is_mark n c) [] (c ∷ before_first n cs) e) h))
+  where
+    no_mark : has_mark m [] ≡ true → (is_mark m c || has_mark m cs) ≡ true
+    no_mark i = absurd cc
+
+    here_or_later : (b x y : Bool) → (x ≡ true → y ≡ true) → (b || x) ≡ true → (b || y) ≡ true
+    here_or_later true x y f i = refl
+    here_or_later false x y f i = f i
+
 abbrev cut_shape : Cut → Shape → Option Shape
 cut_shape (until m) s = either (front m s) (without m s)
 cut_shape (until_last m) s = either (front_last m s) (without m s)
 cut_shape (only_until m) s = either (front m s) (empty_if (without m s))
 cut_shape (behind m) s = either (back m s) (empty_if (without m s))
 cut_shape (past m) s = either (back m s) (without m s)
+cut_shape (past_before m n) s = either (back m s) (either (none_before m n s) (without m s))
 
 -- where there is a mark, and where there is none
 two_ways : (m : Mark) (a b : Option Shape) (cs xs ys zs : List Child)
@@ -542,6 +636,11 @@ cut_so (past m) {s = s} {cs = cs} t =
     two_ways m (back m s) (without m s) cs (behind_first m cs) cs (if has_mark m cs then behind_first m cs else cs)
     (λ h. back_so m t h) (λ h. if_true (has_mark m cs) (behind_first m cs) cs h)
     (λ h. without_so m t h) (λ h. if_false (has_mark m cs) (behind_first m cs) cs h)
+cut_so (past_before m n) {s = s} {cs = cs} t =
+    two_ways m (back m s) (either (none_before m n s) (without m s)) (before_first n cs) (behind_first m cs) cs
+    (if has_mark m (before_first n cs) then behind_first m cs else cs)
+    (λ h. back_so m t (some_before m n cs h)) (λ h. if_true (has_mark m (before_first n cs)) (behind_first m cs) cs h)
+    (λ h. none_before_so m n t h) (λ h. if_false (has_mark m (before_first n cs)) (behind_first m cs) cs h)
 
 abbrev on_some : Option Shape → (Shape → Option Shape) → Option Shape
 on_some None f = None

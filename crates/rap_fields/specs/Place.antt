@@ -39,13 +39,16 @@ behind_first m [] = []
 behind_first m (c ∷ cs) = if is_mark m c then cs else behind_first m cs
 
 -- What is taken of some children: those before the first mark, or before the last, or all where there is none; those
--- before the first mark, or none where there is none; those behind it, or none; or those behind it, or all.
+-- before the first mark, or none where there is none; those behind it, or none; or those behind it, or all; and those
+-- behind the first mark that stands before the first of other marks, or all where no mark stands there. (Where there are
+-- no other marks, all children stand before them.)
 pub data Cut : Type 0 where
   until : Mark → Cut
   until_last : Mark → Cut
   only_until : Mark → Cut
   behind : Mark → Cut
   past : Mark → Cut
+  past_before : Mark → Mark → Cut
 
 abbrev pub cut : Cut → List Child → List Child
 cut (until m) cs = before_first m cs
@@ -53,6 +56,7 @@ cut (until_last m) cs = before_last m cs
 cut (only_until m) cs = if has_mark m cs then before_first m cs else []
 cut (behind m) cs = behind_first m cs
 cut (past m) cs = if has_mark m cs then behind_first m cs else cs
+cut (past_before m n) cs = if has_mark m (before_first n cs) then behind_first m cs else cs
 
 -- one after another
 abbrev pub part : List Cut → List Child → List Child

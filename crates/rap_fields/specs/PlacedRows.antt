@@ -4,7 +4,7 @@ use Rattle.std.specs.Prelude.{List, Some, [], ℕ, ◌∷◌}
 use Rattle.rap_base.specs.NodeKind.{ARRAY_EXPR, ASM_OPERAND_EXPR, BIN_EXPR, BLOCK_EXPR, FOR_EXPR, IF_EXPR, IMPL, INDEX_EXPR, MACRO_DEF, RANGE_EXPR, RANGE_PAT, TOKEN_TREE, TYPE_ALIAS, TYPE_ANCHOR, WHERE_CLAUSE, WHILE_EXPR}
 use Rattle.rap_base.specs.TokenKind.{AS_KW, DOT2, DOT2EQ, DOT3, ELSE_KW, EQ, FAT_ARROW, FOR_KW, L_BRACK, SEMICOLON}
 use Rattle.rap_fields.specs.Field.{any_number, at_most_one, between, exactly_one}
-use Rattle.rap_fields.specs.Place.{PlacedField, at, behind, leaf_mark, node_mark, only_until, past, until, until_last}
+use Rattle.rap_fields.specs.Place.{PlacedField, at, behind, leaf_mark, node_mark, only_until, past, past_before, until, until_last}
 use Rattle.rap_grammar_shapes.specs.Shapes.{expressions, operators, patterns, types}
 
 -- ty path_type
@@ -58,9 +58,11 @@ asm_operand_expr_placed =
     at (exactly_one expressions) (until (leaf_mark (FAT_ARROW ∷ [])) ∷ []) ∷
     at (at_most_one expressions) (behind (leaf_mark (FAT_ARROW ∷ [])) ∷ []) ∷ []
 
--- where_clause
+-- where_clause trailing_where_clause
 abbrev pub type_alias_placed : List PlacedField
-type_alias_placed = at (between 0 (Some 2) (WHERE_CLAUSE ∷ [])) (until (leaf_mark (EQ ∷ [])) ∷ []) ∷ []
+type_alias_placed =
+    at (between 0 (Some 2) (WHERE_CLAUSE ∷ [])) (until (leaf_mark (EQ ∷ [])) ∷ []) ∷
+    at (at_most_one (WHERE_CLAUSE ∷ [])) (past_before (node_mark (WHERE_CLAUSE ∷ [])) (leaf_mark (EQ ∷ [])) ∷ []) ∷ []
 
 -- args
 abbrev pub macro_def_placed : List PlacedField
