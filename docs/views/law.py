@@ -2,19 +2,21 @@
 alone, those that are found by their places too, and the kinds of all that fields find, for the law that shapes fill
 them."""
 import re
+import sys
 import textwrap
 from typing import Iterable
 
 from views.fields import Field, Node, Views, shapes
 
 WIDTH = 120
-# The fields that have a name in Field.antt.
-COMMON = ('attrs', 'doc_comments')
-# Which part of the children a place means, of the first and of the last child of a field.
+# The fields that have a row of their own in Place.antt.
+COMMON = {'attrs': 'attributes', 'doc_comments': 'documentation'}
+# Which part of the children a place means, of the first and of the last child of a field; and where that child is
+# looked for before the first child of another field.
 CUTS = {('before', 'first'): 'until', ('before', 'last'): 'until_last', ('only_before', 'first'): 'only_until',
         ('after', 'first'): 'behind', ('past', 'first'): 'past'}
-# The fields whose places are no such parts: behind a child if it stands before another one, and anywhere if not.
-UNPLACED = [('TYPE_ALIAS', 'trailing_where_clause')]
+BEFORE = {('before', 'last'): 'until_last_before', ('past', 'first'): 'past_before'}
+WHICH = {'first': 'First', 'last': 'Last', 'all': 'All'}
 AMOUNTS = {(1, 1): 'exactly_one', (0, 1): 'at_most_one', (0, None): 'any_number', (1, None): 'at_least_one'}
 
 
@@ -48,27 +50,35 @@ class Writer:
         return '(' + '\0∷\0'.join([*rest, end]) + ')' if rest or not largest else end
 
     def field(self, field: Field) -> str:
-        if field.name in COMMON and field.most is None:
-            return field.name
         amount = AMOUNTS.get((field.fewest, field.most))
         if amount:
             return f'{amount}\0{self.listed(field.kinds)}'
         most = 'None' if field.most is None else f'(Some\0{field.most})'
         return f'between\0{field.fewest}\0{most}\0{self.listed(field.kinds)}'
 
-    def cuts(self, node: Node, field: Field) -> list[str]:
-        """The parts of a node's children in which a field is looked for, each a part of the one before it."""
-        cuts: list[str] = []
-        for place in field.places:
-            mark = node.field(place.field)
-            form = 'leaf_mark' if mark.is_token else 'node_mark'
-            own = CUTS[place.word, mark.how]
-            cuts += [*self.cuts(node, mark), f'{own}\0({form}\0{self.listed(mark.kinds)})']
-        return cuts
+    def cut(self, node: Node, field: Field) -> str:
+        """The part of a node's children in which a field is looked for."""
+        [place] = field.places
+        mark = node.field(place.field)
+        if not mark.places:
+            return f'{CUTS[place.word, mark.how]}\0{self.mark(mark)}'
+        [outer] = mark.places
+        other = node.field(outer.field)
+        if (outer.word, other.how, other.places) != ('before', 'first', ()):
+            sys.exit(f'{node.name}.{field.name}: no part of the children says this place')
+        return f'{BEFORE[place.word, mark.how]}\0{self.mark(mark)}\0{self.mark(other)}'
 
-    def placed(self, node: Node, field: Field) -> str:
-        cuts = '\0∷\0'.join([*self.cuts(node, field), '[]'])
-        return f'at\0({self.field(field)})\0({cuts})'
+    def mark(self, field: Field) -> str:
+        """The children of a field as marks."""
+        return f"({'leaf_mark' if field.is_token else 'node_mark'}\0{self.listed(field.kinds)})"
+
+    def row(self, node: Node, field: Field) -> str:
+        """A field by its number, with what it finds and where."""
+        if field.name in COMMON and (field.how, field.fewest, field.most) == ('all', 0, None):
+            return COMMON[field.name]
+        head = f'field.{field.name.upper()}\0{WHICH[field.how]}'
+        own = f'{head}\0({self.field(field)})'
+        return f'at\0{own}\0({self.cut(node, field)})' if field.places else f'anywhere\0{own}'
 
     def lists_of(self, node: Node) -> list[str]:
         """The lists of kinds that a kind's fields find, or that are left out by name: several at once, and single ones
@@ -78,14 +88,14 @@ class Writer:
         left = [node.left] if node.left else []
         return list(dict.fromkeys(self.listed(it) for it in [*several, *left, *([single] if single else [])]))
 
-    def definitions(self, name: str, result: str, rows: dict[str, list[str]], said: dict[str, str]) -> list[str]:
+    def definitions(self, name: str, result: str, rows: dict[str, list[str]]) -> list[str]:
         """A list for each kind, and the list of all."""
         lines, words = [], []
         for kind, parts in rows.items():
             own = f'{kind.lower()}_{name}'
             self.kinds.add(kind)
             words.append(f'({kind},\0{own})\0∷')
-            lines += ['', *([f'-- {said[kind]}'] if kind in said else []), f'abbrev pub {own} : {result}',
+            lines += ['', f'abbrev pub {own} : {result}',
                       filled(f'{own} =', [*(f'{it}\0∷' for it in parts), '[]'])]
         return [*lines, '', '-- of each kind', f'abbrev pub {name} : List (ℕ × {result})',
                 filled(f'{name} =', [*words, '[]'])]
@@ -93,52 +103,49 @@ class Writer:
     def head(self, what: str, uses: Iterable[str], text: str) -> list[str]:
         prelude = ['ℕ', 'List', '[]', '◌∷◌', *(it for it in ('Some', 'None') if re.search(rf'\b{it}\b', text))]
         tokens = {self.views.names[it] for it in self.views.tokens} | {'ERROR'}
-        places = [it for it in ('PlacedField', 'at', *CUTS.values(), 'leaf_mark', 'node_mark')
-                  if re.search(rf'^[^-].*\b{it}\b', text, re.M)]
+        places = ('FieldRow', *COMMON.values(), 'anywhere', 'at', *CUTS.values(), *BEFORE.values(), 'leaf_mark',
+                  'node_mark')
+        which = 'rap_fields.specs.declared.rule.Which.TheVariants'
         found = [('std.specs.Prelude', prelude), ('rap_base.specs.NodeKind', self.kinds - tokens),
                  ('rap_base.specs.TokenKind', self.kinds & tokens), ('rap_fields.specs.Field', uses),
-                 ('rap_fields.specs.Place', places if 'PlacedField' in places else []),
+                 ('rap_fields.specs.Place', used(places, text) if 'FieldRow' in text else []),
+                 (which, used(WHICH.values(), text) if 'FieldRow' in text else []),
                  ('rap_grammar_shapes.specs.Shapes', self.lists)]
         return [f'-- {what}',
                 *(f'use Rattle.{module}.{{{", ".join(sorted(names))}}}' for module, names in found if names)]
 
 
-def used_words(text: str) -> list[str]:
-    """What definitions use of Field.antt."""
-    words = ['Field', 'between', *COMMON, *AMOUNTS.values()]
+def used(words: Iterable[str], text: str) -> list[str]:
+    """The words that definitions use."""
     return [it for it in words if re.search(rf'^[^-].*\b{it}\b', text, re.M)]
+
+
+def rows_of(views: Views, name: str, what: str, is_placed: bool) -> list[str]:
+    """The rows of the fields that are found by their places too, or of those that are found by kinds alone."""
+    writer = Writer(views)
+    own = {node.name: [writer.row(node, it) for it in node.nodes if bool(it.places) == is_placed]
+           for node in views.nodes}
+    lines = writer.definitions(name, 'List FieldRow', {kind: fields for kind, fields in own.items() if fields})
+    text = '\n'.join(lines)
+    head = writer.head(what, used(['between', *AMOUNTS.values()], text), text)
+    return [*head, 'use Rattle.rap_fields.specs.FieldNames as field', *lines]
 
 
 def rows_lines(views: Views, _said: dict[str, str]) -> list[str]:
     """Rows.antt."""
-    writer = Writer(views)
-    own = {node.name: [it for it in node.nodes if not it.places] for node in views.nodes}
-    rows = {kind: [writer.field(it) for it in fields] for kind, fields in own.items() if fields}
-    said = {kind: ' '.join(it.name for it in fields) for kind, fields in own.items()}
-    lines = writer.definitions('fields', 'List Field', rows, said)
-    text = '\n'.join(lines)
     what = 'The fields that are found by the kinds of nodes alone, with how many children a whole node has of each.'
-    return [*writer.head(what, used_words(text), text), *lines]
+    return rows_of(views, 'fields', what, False)
 
 
 def placed_lines(views: Views, _said: dict[str, str]) -> list[str]:
     """PlacedRows.antt."""
-    writer = Writer(views)
-    rows, said = {}, {}
-    for node in views.nodes:
-        fields = [it for it in node.nodes if it.places and (node.name, it.name) not in UNPLACED]
-        if fields:
-            rows[node.name] = [writer.placed(node, it) for it in fields]
-            said[node.name] = ' '.join(it.name for it in fields)
-    lines = writer.definitions('placed', 'List PlacedField', rows, said)
-    text = '\n'.join(lines)
     what = 'The fields that are found by their places too, with how many children of a whole node stand there.'
-    return [*writer.head(what, used_words(text), text), *lines]
+    return rows_of(views, 'placed', what, True)
 
 
 def found_lines(views: Views, _said: dict[str, str]) -> list[str]:
     """Found.antt."""
     writer = Writer(views)
-    lines = writer.definitions('found', 'List (List ℕ)', {it.name: writer.lists_of(it) for it in views.nodes}, {})
+    lines = writer.definitions('found', 'List (List ℕ)', {it.name: writer.lists_of(it) for it in views.nodes})
     what = 'The kinds of all nodes that the fields of a kind find, or that are left out by name.'
     return [*writer.head(what, [], ''), *lines]

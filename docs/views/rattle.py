@@ -5,10 +5,9 @@ import textwrap
 from typing import Iterable, Iterator, NamedTuple, Optional
 
 from views.fields import Field, Node, Views, shapes
-from views.law import WIDTH, Writer, filled
+from views.law import WHICH, WIDTH, Writer, filled
 
 PLACES = {'': 'Anywhere', 'before': 'Before', 'only_before': 'OnlyBefore', 'after': 'After', 'past': 'Past'}
-WHICH = {'first': 'First', 'last': 'Last', 'all': 'All'}
 TEN = 10
 STATIC = "&'static "
 ROW = f'{STATIC}[(u16, {STATIC}[Step])]'

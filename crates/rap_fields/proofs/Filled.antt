@@ -6,6 +6,7 @@ use Rattle.rap_events.proofs.Truth.{and_left, and_right}
 use Rattle.rap_fields.specs.Field.{Field, Fills, nodes_among, nodes_are, together}
 use Rattle.rap_fields.specs.Filled.{FieldsAreFilled, IsOne, NodesAreFound, first, later}
 use Rattle.rap_fields.specs.Found.{found}
+use Rattle.rap_fields.specs.Place.{FieldRow}
 use Rattle.rap_fields.specs.Rows.{fields}
 use Rattle.rap_grammar_shapes.specs.Shapes.{shape_of}
 use Rattle.rap_grammar_table.specs.Counts.{IsAtMost, fewest, most, nodes_of}
@@ -105,11 +106,11 @@ abbrev pub fits : Shape → Field → Bool
 fits s f =
     nat_lt f.fewest (suc (fewest 0 (marked_shape f.kinds s))) && is_below (most 0 (marked_shape f.kinds s)) f.most
 
-abbrev all_fit : Shape → List Field → Bool
+abbrev all_fit : Shape → List FieldRow → Bool
 all_fit s [] = true
-all_fit s (f ∷ fs) = fits s f && all_fit s fs
+all_fit s (f ∷ fs) = fits s f.field && all_fit s fs
 
-abbrev each_fits : List (ℕ × List Field) → Bool
+abbrev each_fits : List (ℕ × List FieldRow) → Bool
 each_fits [] = true
 each_fits (row ∷ rows) = all_fit (shape_of row.0) row.1 && each_fits rows
 
@@ -139,12 +140,12 @@ fills s f cs h p =
     least : (n m k : ℕ) → nat_lt n (suc m) ≡ true → m ≤ k → n ≤ k
     least n m k l b = grind (arith, nat_tests, l, b)
 
-one_fits : (s : Shape) (fs : List Field) (f : Field) → all_fit s fs ≡ true → IsOne f fs → fits s f ≡ true
+one_fits : (s : Shape) (fs : List FieldRow) (f : FieldRow) → all_fit s fs ≡ true → IsOne f fs → fits s f.field ≡ true
 one_fits s [] f h i = elim i [ ]
-one_fits s (g ∷ fs) f h first = and_left (fits s g) (all_fit s fs) h
-one_fits s (g ∷ fs) f h (later i) = one_fits s fs f (and_right (fits s g) (all_fit s fs) h) i
+one_fits s (g ∷ fs) f h first = and_left (fits s g.field) (all_fit s fs) h
+one_fits s (g ∷ fs) f h (later i) = one_fits s fs f (and_right (fits s g.field) (all_fit s fs) h) i
 
-row_fits : (rows : List (ℕ × List Field)) (kind : ℕ) (fs : List Field) → each_fits rows ≡ true →
+row_fits : (rows : List (ℕ × List FieldRow)) (kind : ℕ) (fs : List FieldRow) → each_fits rows ≡ true →
     IsOne (kind, fs) rows → all_fit (shape_of kind) fs ≡ true
 row_fits [] kind fs h i = elim i [ ]
 row_fits (row ∷ rows) kind fs h first = and_left (all_fit (shape_of kind) fs) (each_fits rows) h
@@ -153,7 +154,7 @@ row_fits (row ∷ rows) kind fs h (later i) =
 
 pub fields_filled : FieldsAreFilled
 fields_filled kind fs f i j cs s =
-    fills (shape_of kind) f cs (one_fits (shape_of kind) fs f (row_fits fields kind fs each_so i) j) s
+    fills (shape_of kind) f.field cs (one_fits (shape_of kind) fs f (row_fits fields kind fs each_so i) j) s
 
 -- each child that is a node is found
 are-append : (ks : List ℕ) (cs ds : List Child) → nodes_are ks cs ≡ true → nodes_are ks ds ≡ true →

@@ -3,157 +3,14 @@ use Rattle.std.proofs.Common.{◌≡◌, ◌==◌, ◌&&◌, ◌||◌, ℕ, Bool
 use Rattle.rap_events.proofs.Truth.{and_left, and_right, or_left, or_right}
 use Rattle.rap_fields.specs.Field.{Field, Fills}
 use Rattle.rap_fields.specs.Filled.{IsOne, PlacedFieldsAreFilled, first, later}
-use Rattle.rap_fields.specs.Place.{Cut, Mark, PlacedField, before_first, before_last, behind, behind_first, cut, has_mark, is_mark, leaf_mark, node_mark, only_until, part, past, until, until_last}
+use Rattle.rap_fields.specs.Place.{Cut, FieldRow, Mark, before_first, before_last, behind, behind_first, cut, has_mark, is_mark, leaf_mark, node_mark, only_until, past, past_before, until, until_last, until_last_before, whole}
 use Rattle.rap_fields.specs.PlacedRows.{placed}
 use Rattle.rap_fields.proofs.Filled.{fills, fits}
+use Rattle.rap_fields.proofs.Splits.{behind_in, behind_none, behind_past, by_bool, first_in, first_mark, first_none, first_past, if_false, if_true, last_in, last_none, last_past, none_first, none_second, not_left, some_before, some_first, some_second}
 use Rattle.rap_grammar_shapes.specs.Shapes.{shape_of}
 use Rattle.rap_grammar_table.specs.Known.{among}
-use Rattle.rap_grammar_table.specs.Shapes.{Child, leaf_child, node_child, Shape, nothing, leaf_of, any_leaf, node_of, a_float, ◌⋅◌, ◌or◌, any_of, Spells, no_child, a_leaf, some_leaf, a_node, the_float, in_order, by_first, by_second, no_more, one_more}
+use Rattle.rap_grammar_table.specs.Shapes.{Child, leaf_child, node_child, message_child, float_child, Shape, nothing, leaf_of, any_leaf, node_of, a_float, ◌⋅◌, ◌or◌, any_of, Spells, no_child, a_leaf, some_leaf, a_node, the_float, in_order, by_first, by_second, no_more, one_more}
 use Rattle.rap_grammar_table.proofs.Known.{by_or, same_number}
-
--- Truth values.
-by_bool : {A : Type 0} (b : Bool) → (b ≡ true → A) → (b ≡ false → A) → A
-by_bool true f g = f refl
-by_bool false f g = g refl
-
-if_true : {A : Type 0} (b : Bool) (x y : A) → b ≡ true → (if b then x else y) ≡ x
-if_true true x y h = refl
-if_true false x y h = absurd cc
-
-if_false : {A : Type 0} (b : Bool) (x y : A) → b ≡ false → (if b then x else y) ≡ y
-if_false true x y h = absurd cc
-if_false false x y h = refl
-
-or_rest : (b c : Bool) → b ≡ false → (b || c) ≡ true → c ≡ true
-or_rest true c h i = absurd cc
-or_rest false c h i = i
-
-not_left : (b c : Bool) → (b || c) ≡ false → b ≡ false
-not_left true c h = absurd cc
-not_left false c h = refl
-
-not_right : (b c : Bool) → (b || c) ≡ false → c ≡ false
-not_right true c h = absurd cc
-not_right false c h = h
-
--- Marks in two lists.
-has-++ : (m : Mark) (cs ds : List Child) → has_mark m (cs ++ ds) ≡ (has_mark m cs || has_mark m ds)
-has-++ m [] ds = refl
-has-++ m (c ∷ cs) ds =
-    ap (λ b. is_mark m c || b) (has-++ m cs ds) ∙ more (is_mark m c) (has_mark m cs) (has_mark m ds)
-  where
-    more : (t u v : Bool) → (t || (u || v)) ≡ ((t || u) || v)
-    more true u v = refl
-    more false u v = refl
-
-none_first : (m : Mark) (cs ds : List Child) → has_mark m (cs ++ ds) ≡ false → has_mark m cs ≡ false
-none_first m cs ds h = not_left (has_mark m cs) (has_mark m ds) (sym (has-++ m cs ds) ∙ h)
-
-none_second : (m : Mark) (cs ds : List Child) → has_mark m (cs ++ ds) ≡ false → has_mark m ds ≡ false
-none_second m cs ds h = not_right (has_mark m cs) (has_mark m ds) (sym (has-++ m cs ds) ∙ h)
-
-some_second : (m : Mark) (cs ds : List Child) → has_mark m cs ≡ false → has_mark m (cs ++ ds) ≡ true
-    → has_mark m ds ≡ true
-some_second m cs ds n h = or_rest (has_mark m cs) (has_mark m ds) n (sym (has-++ m cs ds) ∙ h)
-
-some_first : (m : Mark) (cs ds : List Child) → has_mark m ds ≡ false → has_mark m (cs ++ ds) ≡ true
-    → has_mark m cs ≡ true
-some_first m cs ds n h = left_one (has_mark m cs) (has_mark m ds) n (sym (has-++ m cs ds) ∙ h)
-  where
-    left_one : (b c : Bool) → c ≡ false → (b || c) ≡ true → b ≡ true
-    left_one true c i j = refl
-    left_one false true i j = absurd cc
-    left_one false false i j = absurd cc
-
--- The parts of two lists.
-same_else : {A : Type 0} (b : Bool) (x y z : A) → (b ≡ false → y ≡ z) → (if b then x else y) ≡ (if b then x else z)
-same_else true x y z f = refl
-same_else false x y z f = f refl
-
-first_in : (m : Mark) (cs ds : List Child) → has_mark m cs ≡ true → before_first m (cs ++ ds) ≡ before_first m cs
-first_in m [] ds h = absurd cc
-first_in m (c ∷ cs) ds h =
-    same_else (is_mark m c) [] (c ∷ before_first m (cs ++ ds)) (c ∷ before_first m cs)
-    (λ e. ap (λ l. c ∷ l) (first_in m cs ds (or_rest (is_mark m c) (has_mark m cs) e h)))
-
-first_past : (m : Mark) (cs ds : List Child) → has_mark m cs ≡ false
-    → before_first m (cs ++ ds) ≡ cs ++ before_first m ds
-first_past m [] ds h = refl
-first_past m (c ∷ cs) ds h =
-    if_false (is_mark m c) [] (c ∷ before_first m (cs ++ ds)) (not_left (is_mark m c) (has_mark m cs) h)
-    ∙ ap (λ l. c ∷ l) (first_past m cs ds (not_right (is_mark m c) (has_mark m cs) h))
-
-first_none : (m : Mark) (cs : List Child) → has_mark m cs ≡ false → before_first m cs ≡ cs
-first_none m [] h = refl
-first_none m (c ∷ cs) h =
-    if_false (is_mark m c) [] (c ∷ before_first m cs) (not_left (is_mark m c) (has_mark m cs) h)
-    ∙ ap (λ l. c ∷ l) (first_none m cs (not_right (is_mark m c) (has_mark m cs) h))
-
-behind_in : (m : Mark) (cs ds : List Child) → has_mark m cs ≡ true
-    → behind_first m (cs ++ ds) ≡ behind_first m cs ++ ds
-behind_in m [] ds h = absurd cc
-behind_in m (c ∷ cs) ds h =
-    both (is_mark m c) cs (behind_first m cs) (behind_first m (cs ++ ds))
-    (λ e. behind_in m cs ds (or_rest (is_mark m c) (has_mark m cs) e h))
-  where
-    both : (b : Bool) (xs ys zs : List Child) → (b ≡ false → zs ≡ ys ++ ds)
-        → (if b then xs ++ ds else zs) ≡ (if b then xs else ys) ++ ds
-    both true xs ys zs f = refl
-    both false xs ys zs f = f refl
-
-behind_past : (m : Mark) (cs ds : List Child) → has_mark m cs ≡ false
-    → behind_first m (cs ++ ds) ≡ behind_first m ds
-behind_past m [] ds h = refl
-behind_past m (c ∷ cs) ds h =
-    if_false (is_mark m c) (cs ++ ds) (behind_first m (cs ++ ds)) (not_left (is_mark m c) (has_mark m cs) h)
-    ∙ behind_past m cs ds (not_right (is_mark m c) (has_mark m cs) h)
-
-behind_none : (m : Mark) (cs : List Child) → has_mark m cs ≡ false → behind_first m cs ≡ []
-behind_none m [] h = refl
-behind_none m (c ∷ cs) h =
-    if_false (is_mark m c) cs (behind_first m cs) (not_left (is_mark m c) (has_mark m cs) h)
-    ∙ behind_none m cs (not_right (is_mark m c) (has_mark m cs) h)
-
-last_in : (m : Mark) (cs ds : List Child) → has_mark m ds ≡ true → before_last m (cs ++ ds) ≡ cs ++ before_last m ds
-last_in m [] ds h = refl
-last_in m (c ∷ cs) ds h =
-    if_true (has_mark m (cs ++ ds)) (c ∷ before_last m (cs ++ ds)) (if is_mark m c then [] else c ∷ (cs ++ ds))
-    (has-++ m cs ds ∙ or_right (has_mark m cs) (has_mark m ds) h)
-    ∙ ap (λ l. c ∷ l) (last_in m cs ds h)
-
-last_past : (m : Mark) (cs ds : List Child) → has_mark m ds ≡ false → has_mark m cs ≡ true
-    → before_last m (cs ++ ds) ≡ before_last m cs
-last_past m [] ds h i = absurd cc
-last_past m (c ∷ cs) ds h i =
-    by_bool (has_mark m cs)
-    (λ e.
-    if_true (has_mark m (cs ++ ds)) (c ∷ before_last m (cs ++ ds)) (if is_mark m c then [] else c ∷ (cs ++ ds))
-    (has-++ m cs ds ∙ or_left (has_mark m cs) (has_mark m ds) e)
-    ∙ (ap (λ l. c ∷ l) (last_past m cs ds h e)
-    ∙ sym (if_true (has_mark m cs) (c ∷ before_last m cs) (if is_mark m c then [] else c ∷ cs) e)))
-    (λ e.
-    let one : is_mark m c ≡ true = own (is_mark m c) (has_mark m cs) e i in
-    if_false (has_mark m (cs ++ ds)) (c ∷ before_last m (cs ++ ds)) (if is_mark m c then [] else c ∷ (cs ++ ds))
-    (has-++ m cs ds ∙ neither (has_mark m cs) (has_mark m ds) e h)
-    ∙ (if_true (is_mark m c) [] (c ∷ (cs ++ ds)) one
-    ∙ (sym (if_true (is_mark m c) [] (c ∷ cs) one)
-    ∙ sym (if_false (has_mark m cs) (c ∷ before_last m cs) (if is_mark m c then [] else c ∷ cs) e))))
-  where
-    own : (b c : Bool) → c ≡ false → (b || c) ≡ true → b ≡ true
-    own true c e i = refl
-    own false true e i = absurd cc
-    own false false e i = absurd cc
-
-    neither : (b c : Bool) → b ≡ false → c ≡ false → (b || c) ≡ false
-    neither true c e i = absurd cc
-    neither false c e i = i
-
-last_none : (m : Mark) (cs : List Child) → has_mark m cs ≡ false → before_last m cs ≡ cs
-last_none m [] h = refl
-last_none m (c ∷ cs) h =
-    if_false (has_mark m cs) (c ∷ before_last m cs) (if is_mark m c then [] else c ∷ cs)
-    (not_right (is_mark m c) (has_mark m cs) h)
-    ∙ if_false (is_mark m c) [] (c ∷ cs) (not_left (is_mark m c) (has_mark m cs) h)
 
 -- Shapes that there may not be.
 abbrev SpellsSome : Option Shape → List Child → Type 0
@@ -330,12 +187,12 @@ nodes_so : (ks : List ℕ) (k : ℕ) → among ks k ≡ true → SpellsSome (nod
 nodes_so [] k h = absurd cc
 nodes_so (j ∷ ks) k h = a_node h
 
-leaf_without : (m : Mark) (ks : List ℕ) (k : ℕ) → among ks k ≡ true → has_mark m (leaf_child k ∷ []) ≡ false
+leaf_without : (m : Mark) (ks : List ℕ) (k : ℕ) → among ks k ≡ true → has_mark (is_mark m) (leaf_child k ∷ []) ≡ false
     → SpellsSome (unmarked_leaves m ks) (leaf_child k ∷ [])
 leaf_without (leaf_mark js) ks k h n = leaves_so (apart js ks) k (apart_so js ks k (not_left (among js k) false n) h)
 leaf_without (node_mark js) ks k h n = a_leaf h
 
-node_without : (m : Mark) (ks : List ℕ) (k : ℕ) → among ks k ≡ true → has_mark m (node_child k ∷ []) ≡ false
+node_without : (m : Mark) (ks : List ℕ) (k : ℕ) → among ks k ≡ true → has_mark (is_mark m) (node_child k ∷ []) ≡ false
     → SpellsSome (unmarked_nodes m ks) (node_child k ∷ [])
 node_without (leaf_mark js) ks k h n = a_node h
 node_without (node_mark js) ks k h n = nodes_so (apart js ks) k (apart_so js ks k (not_left (among js k) false n) h)
@@ -349,18 +206,18 @@ left_of : (b : Bool) → (b || false) ≡ true → b ≡ true
 left_of true h = refl
 left_of false h = absurd cc
 
-leaf_part : (m : Mark) (ks : List ℕ) (k : ℕ) → among ks k ≡ true → has_mark m (leaf_child k ∷ []) ≡ true
+leaf_part : (m : Mark) (ks : List ℕ) (k : ℕ) → among ks k ≡ true → has_mark (is_mark m) (leaf_child k ∷ []) ≡ true
     → SpellsSome (nothing_if (marks_leaf m ks)) (if is_mark m (leaf_child k) then [] else leaf_child k ∷ [])
 leaf_part (leaf_mark js) ks k h n =
     let own = left_of (among js k) n in no_part (meets js ks) (among js k) (leaf_child k) (meets_so js ks k own h) own
 leaf_part (node_mark js) ks k h n = absurd cc
 
-any_part : (m : Mark) (k : ℕ) → has_mark m (leaf_child k ∷ []) ≡ true
+any_part : (m : Mark) (k : ℕ) → has_mark (is_mark m) (leaf_child k ∷ []) ≡ true
     → SpellsSome (nothing_if (marks_any m)) (if is_mark m (leaf_child k) then [] else leaf_child k ∷ [])
 any_part (leaf_mark js) k n = no_part true (among js k) (leaf_child k) refl (left_of (among js k) n)
 any_part (node_mark js) k n = absurd cc
 
-node_part : (m : Mark) (ks : List ℕ) (k : ℕ) → among ks k ≡ true → has_mark m (node_child k ∷ []) ≡ true
+node_part : (m : Mark) (ks : List ℕ) (k : ℕ) → among ks k ≡ true → has_mark (is_mark m) (node_child k ∷ []) ≡ true
     → SpellsSome (nothing_if (marks_node m ks)) (if is_mark m (node_child k) then [] else node_child k ∷ [])
 node_part (leaf_mark js) ks k h n = absurd cc
 node_part (node_mark js) ks k h n =
@@ -371,36 +228,36 @@ no_end true true h = no_child
 no_end true false h = no_child
 no_end false b h = absurd cc
 
-leaf_meets : (m : Mark) (ks : List ℕ) (k : ℕ) → among ks k ≡ true → has_mark m (leaf_child k ∷ []) ≡ true → marks_leaf m ks ≡ true
+leaf_meets : (m : Mark) (ks : List ℕ) (k : ℕ) → among ks k ≡ true → has_mark (is_mark m) (leaf_child k ∷ []) ≡ true → marks_leaf m ks ≡ true
 leaf_meets (leaf_mark js) ks k h n = meets_so js ks k (left_of (among js k) n) h
 leaf_meets (node_mark js) ks k h n = absurd cc
 
-any_meets : (m : Mark) (k : ℕ) → has_mark m (leaf_child k ∷ []) ≡ true → marks_any m ≡ true
+any_meets : (m : Mark) (k : ℕ) → has_mark (is_mark m) (leaf_child k ∷ []) ≡ true → marks_any m ≡ true
 any_meets (leaf_mark js) k n = refl
 any_meets (node_mark js) k n = absurd cc
 
-node_meets : (m : Mark) (ks : List ℕ) (k : ℕ) → among ks k ≡ true → has_mark m (node_child k ∷ []) ≡ true → marks_node m ks ≡ true
+node_meets : (m : Mark) (ks : List ℕ) (k : ℕ) → among ks k ≡ true → has_mark (is_mark m) (node_child k ∷ []) ≡ true → marks_node m ks ≡ true
 node_meets (leaf_mark js) ks k h n = absurd cc
 node_meets (node_mark js) ks k h n = meets_so js ks k (left_of (among js k) n) h
 
 -- All children, where there is no mark.
-without_so : (m : Mark) {s : Shape} {cs : List Child} → Spells s cs → has_mark m cs ≡ false → SpellsSome (without m s) cs
+without_so : (m : Mark) {s : Shape} {cs : List Child} → Spells s cs → has_mark (is_mark m) cs ≡ false → SpellsSome (without m s) cs
 without_so m no_child n = no_child
 without_so m (a_leaf {kinds = ks} {kind = k} h) n = leaf_without m ks k h n
 without_so m some_leaf n = some_leaf
 without_so m (a_node {kinds = ks} {kind = k} h) n = node_without m ks k h n
 without_so m the_float n = the_float
 without_so m (in_order {a = a} {b = b} {cs = cs} {ds = ds} s t) n =
-    row_so (without m a) (without m b) cs ds (without_so m s (none_first m cs ds n)) (without_so m t (none_second m cs ds n))
+    row_so (without m a) (without m b) cs ds (without_so m s (none_first (is_mark m) cs ds n)) (without_so m t (none_second (is_mark m) cs ds n))
 without_so m (by_first {a = a} {b = b} {cs = cs} s) n = either_first (without m a) (without m b) cs (without_so m s n)
 without_so m (by_second {a = a} {b = b} {cs = cs} s) n = either_second (without m a) (without m b) cs (without_so m s n)
 without_so m (no_more {a = a}) n = repeated_none (without m a)
 without_so m (one_more {a = a} {cs = cs} {ds = ds} s t) n =
-    repeated_more (without m a) cs ds (without_so m s (none_first m cs ds n)) (without_so m t (none_second m cs ds n))
+    repeated_more (without m a) cs ds (without_so m s (none_first (is_mark m) cs ds n)) (without_so m t (none_second (is_mark m) cs ds n))
 
 -- Those before the first mark.
-front_so : (m : Mark) {s : Shape} {cs : List Child} → Spells s cs → has_mark m cs ≡ true
-    → SpellsSome (front m s) (before_first m cs)
+front_so : (m : Mark) {s : Shape} {cs : List Child} → Spells s cs → has_mark (is_mark m) cs ≡ true
+    → SpellsSome (front m s) (before_first (is_mark m) cs)
 front_so m no_child n = absurd cc
 front_so m (a_leaf {kinds = ks} {kind = k} h) n = leaf_part m ks k h n
 front_so m (some_leaf {kind = k}) n = any_part m k n
@@ -408,31 +265,31 @@ front_so m (a_node {kinds = ks} {kind = k} h) n = node_part m ks k h n
 front_so (leaf_mark js) the_float n = absurd cc
 front_so (node_mark js) the_float n = absurd cc
 front_so m (in_order {a = a} {b = b} {cs = cs} {ds = ds} s t) n =
-    by_bool (has_mark m cs)
+    by_bool (has_mark (is_mark m) cs)
     (λ e.
-    subst (λ (l : List Child). SpellsSome (front m (a ⋅ b)) l) (sym (first_in m cs ds e))
-    (either_first (front m a) (in_row (without m a) (front m b)) (before_first m cs) (front_so m s e)))
+    subst (λ (l : List Child). SpellsSome (front m (a ⋅ b)) l) (sym (first_in (is_mark m) cs ds e))
+    (either_first (front m a) (in_row (without m a) (front m b)) (before_first (is_mark m) cs) (front_so m s e)))
     (λ e.
-    subst (λ (l : List Child). SpellsSome (front m (a ⋅ b)) l) (sym (first_past m cs ds e))
-    (either_second (front m a) (in_row (without m a) (front m b)) (cs ++ before_first m ds)
-    (row_so (without m a) (front m b) cs (before_first m ds) (without_so m s e) (front_so m t (some_second m cs ds e n)))))
+    subst (λ (l : List Child). SpellsSome (front m (a ⋅ b)) l) (sym (first_past (is_mark m) cs ds e))
+    (either_second (front m a) (in_row (without m a) (front m b)) (cs ++ before_first (is_mark m) ds)
+    (row_so (without m a) (front m b) cs (before_first (is_mark m) ds) (without_so m s e) (front_so m t (some_second (is_mark m) cs ds e n)))))
 front_so m (by_first {a = a} {b = b} {cs = cs} s) n =
-    either_first (front m a) (front m b) (before_first m cs) (front_so m s n)
+    either_first (front m a) (front m b) (before_first (is_mark m) cs) (front_so m s n)
 front_so m (by_second {a = a} {b = b} {cs = cs} s) n =
-    either_second (front m a) (front m b) (before_first m cs) (front_so m s n)
+    either_second (front m a) (front m b) (before_first (is_mark m) cs) (front_so m s n)
 front_so m no_more n = absurd cc
 front_so m (one_more {a = a} {cs = cs} {ds = ds} s t) n =
-    by_bool (has_mark m cs)
+    by_bool (has_mark (is_mark m) cs)
     (λ e.
-    subst (λ (l : List Child). SpellsSome (front m (any_of a)) l) (sym (first_in m cs ds e))
-    (row_so (Some (repeated (without m a))) (front m a) [] (before_first m cs) (repeated_none (without m a)) (front_so m s e)))
+    subst (λ (l : List Child). SpellsSome (front m (any_of a)) l) (sym (first_in (is_mark m) cs ds e))
+    (row_so (Some (repeated (without m a))) (front m a) [] (before_first (is_mark m) cs) (repeated_none (without m a)) (front_so m s e)))
     (λ e.
-    subst (λ (l : List Child). SpellsSome (front m (any_of a)) l) (sym (first_past m cs ds e))
-    (row_more (without m a) (front m a) cs (before_first m ds) (without_so m s e) (front_so m t (some_second m cs ds e n))))
+    subst (λ (l : List Child). SpellsSome (front m (any_of a)) l) (sym (first_past (is_mark m) cs ds e))
+    (row_more (without m a) (front m a) cs (before_first (is_mark m) ds) (without_so m s e) (front_so m t (some_second (is_mark m) cs ds e n))))
 
 -- Those behind it.
-back_so : (m : Mark) {s : Shape} {cs : List Child} → Spells s cs → has_mark m cs ≡ true
-    → SpellsSome (back m s) (behind_first m cs)
+back_so : (m : Mark) {s : Shape} {cs : List Child} → Spells s cs → has_mark (is_mark m) cs ≡ true
+    → SpellsSome (back m s) (behind_first (is_mark m) cs)
 back_so m no_child n = absurd cc
 back_so m (a_leaf {kinds = ks} {kind = k} h) n = no_end (marks_leaf m ks) (is_mark m (leaf_child k)) (leaf_meets m ks k h n)
 back_so m (some_leaf {kind = k}) n = no_end (marks_any m) (is_mark m (leaf_child k)) (any_meets m k n)
@@ -440,32 +297,32 @@ back_so m (a_node {kinds = ks} {kind = k} h) n = no_end (marks_node m ks) (is_ma
 back_so (leaf_mark js) the_float n = absurd cc
 back_so (node_mark js) the_float n = absurd cc
 back_so m (in_order {a = a} {b = b} {cs = cs} {ds = ds} s t) n =
-    by_bool (has_mark m cs)
+    by_bool (has_mark (is_mark m) cs)
     (λ e.
-    subst (λ (l : List Child). SpellsSome (back m (a ⋅ b)) l) (sym (behind_in m cs ds e))
-    (either_first (in_row (back m a) (Some b)) (only_if (without m a) (back m b)) (behind_first m cs ++ ds)
-    (row_so (back m a) (Some b) (behind_first m cs) ds (back_so m s e) t)))
+    subst (λ (l : List Child). SpellsSome (back m (a ⋅ b)) l) (sym (behind_in (is_mark m) cs ds e))
+    (either_first (in_row (back m a) (Some b)) (only_if (without m a) (back m b)) (behind_first (is_mark m) cs ++ ds)
+    (row_so (back m a) (Some b) (behind_first (is_mark m) cs) ds (back_so m s e) t)))
     (λ e.
-    subst (λ (l : List Child). SpellsSome (back m (a ⋅ b)) l) (sym (behind_past m cs ds e))
-    (either_second (in_row (back m a) (Some b)) (only_if (without m a) (back m b)) (behind_first m ds)
-    (only_so (without m a) (back m b) cs (behind_first m ds) (without_so m s e) (back_so m t (some_second m cs ds e n)))))
+    subst (λ (l : List Child). SpellsSome (back m (a ⋅ b)) l) (sym (behind_past (is_mark m) cs ds e))
+    (either_second (in_row (back m a) (Some b)) (only_if (without m a) (back m b)) (behind_first (is_mark m) ds)
+    (only_so (without m a) (back m b) cs (behind_first (is_mark m) ds) (without_so m s e) (back_so m t (some_second (is_mark m) cs ds e n)))))
 back_so m (by_first {a = a} {b = b} {cs = cs} s) n =
-    either_first (back m a) (back m b) (behind_first m cs) (back_so m s n)
+    either_first (back m a) (back m b) (behind_first (is_mark m) cs) (back_so m s n)
 back_so m (by_second {a = a} {b = b} {cs = cs} s) n =
-    either_second (back m a) (back m b) (behind_first m cs) (back_so m s n)
+    either_second (back m a) (back m b) (behind_first (is_mark m) cs) (back_so m s n)
 back_so m no_more n = absurd cc
 back_so m (one_more {a = a} {cs = cs} {ds = ds} s t) n =
-    by_bool (has_mark m cs)
+    by_bool (has_mark (is_mark m) cs)
     (λ e.
-    subst (λ (l : List Child). SpellsSome (back m (any_of a)) l) (sym (behind_in m cs ds e))
-    (row_so (back m a) (Some (any_of a)) (behind_first m cs) ds (back_so m s e) t))
+    subst (λ (l : List Child). SpellsSome (back m (any_of a)) l) (sym (behind_in (is_mark m) cs ds e))
+    (row_so (back m a) (Some (any_of a)) (behind_first (is_mark m) cs) ds (back_so m s e) t))
     (λ e.
-    subst (λ (l : List Child). SpellsSome (back m (any_of a)) l) (sym (behind_past m cs ds e))
-    (back_so m t (some_second m cs ds e n)))
+    subst (λ (l : List Child). SpellsSome (back m (any_of a)) l) (sym (behind_past (is_mark m) cs ds e))
+    (back_so m t (some_second (is_mark m) cs ds e n)))
 
 -- Those before the last.
-last_so : (m : Mark) {s : Shape} {cs : List Child} → Spells s cs → has_mark m cs ≡ true
-    → SpellsSome (front_last m s) (before_last m cs)
+last_so : (m : Mark) {s : Shape} {cs : List Child} → Spells s cs → has_mark (is_mark m) cs ≡ true
+    → SpellsSome (front_last m s) (before_last (is_mark m) cs)
 last_so m no_child n = absurd cc
 last_so m (a_leaf {kinds = ks} {kind = k} h) n = leaf_part m ks k h n
 last_so m (some_leaf {kind = k}) n = any_part m k n
@@ -473,30 +330,30 @@ last_so m (a_node {kinds = ks} {kind = k} h) n = node_part m ks k h n
 last_so (leaf_mark js) the_float n = absurd cc
 last_so (node_mark js) the_float n = absurd cc
 last_so m (in_order {a = a} {b = b} {cs = cs} {ds = ds} s t) n =
-    by_bool (has_mark m ds)
+    by_bool (has_mark (is_mark m) ds)
     (λ e.
-    subst (λ (l : List Child). SpellsSome (front_last m (a ⋅ b)) l) (sym (last_in m cs ds e))
-    (either_first (in_row (Some a) (front_last m b)) (only_if (without m b) (front_last m a)) (cs ++ before_last m ds)
-    (row_so (Some a) (front_last m b) cs (before_last m ds) s (last_so m t e))))
+    subst (λ (l : List Child). SpellsSome (front_last m (a ⋅ b)) l) (sym (last_in (is_mark m) cs ds e))
+    (either_first (in_row (Some a) (front_last m b)) (only_if (without m b) (front_last m a)) (cs ++ before_last (is_mark m) ds)
+    (row_so (Some a) (front_last m b) cs (before_last (is_mark m) ds) s (last_so m t e))))
     (λ e.
-    let f = some_first m cs ds e n in
-    subst (λ (l : List Child). SpellsSome (front_last m (a ⋅ b)) l) (sym (last_past m cs ds e f))
-    (either_second (in_row (Some a) (front_last m b)) (only_if (without m b) (front_last m a)) (before_last m cs)
-    (only_so (without m b) (front_last m a) ds (before_last m cs) (without_so m t e) (last_so m s f))))
+    let f = some_first (is_mark m) cs ds e n in
+    subst (λ (l : List Child). SpellsSome (front_last m (a ⋅ b)) l) (sym (last_past (is_mark m) cs ds e f))
+    (either_second (in_row (Some a) (front_last m b)) (only_if (without m b) (front_last m a)) (before_last (is_mark m) cs)
+    (only_so (without m b) (front_last m a) ds (before_last (is_mark m) cs) (without_so m t e) (last_so m s f))))
 last_so m (by_first {a = a} {b = b} {cs = cs} s) n =
-    either_first (front_last m a) (front_last m b) (before_last m cs) (last_so m s n)
+    either_first (front_last m a) (front_last m b) (before_last (is_mark m) cs) (last_so m s n)
 last_so m (by_second {a = a} {b = b} {cs = cs} s) n =
-    either_second (front_last m a) (front_last m b) (before_last m cs) (last_so m s n)
+    either_second (front_last m a) (front_last m b) (before_last (is_mark m) cs) (last_so m s n)
 last_so m no_more n = absurd cc
 last_so m (one_more {a = a} {cs = cs} {ds = ds} s t) n =
-    by_bool (has_mark m ds)
+    by_bool (has_mark (is_mark m) ds)
     (λ e.
-    subst (λ (l : List Child). SpellsSome (front_last m (any_of a)) l) (sym (last_in m cs ds e))
-    (row_more (Some a) (front_last m a) cs (before_last m ds) s (last_so m t e)))
+    subst (λ (l : List Child). SpellsSome (front_last m (any_of a)) l) (sym (last_in (is_mark m) cs ds e))
+    (row_more (Some a) (front_last m a) cs (before_last (is_mark m) ds) s (last_so m t e)))
     (λ e.
-    let f = some_first m cs ds e n in
-    subst (λ (l : List Child). SpellsSome (front_last m (any_of a)) l) (sym (last_past m cs ds e f))
-    (row_so (Some (any_of a)) (front_last m a) [] (before_last m cs) no_more (last_so m s f)))
+    let f = some_first (is_mark m) cs ds e n in
+    subst (λ (l : List Child). SpellsSome (front_last m (any_of a)) l) (sym (last_past (is_mark m) cs ds e f))
+    (row_so (Some (any_of a)) (front_last m a) [] (before_last (is_mark m) cs) no_more (last_so m s f)))
 
 -- What is taken of the children is of a shape.
 abbrev empty_if : Option Shape → Option Shape
@@ -507,72 +364,137 @@ empty_so : (a : Option Shape) (cs : List Child) → SpellsSome a cs → SpellsSo
 empty_so None cs s = absurd s
 empty_so (Some a) cs s = no_child
 
+-- Where no mark stands before the first of other marks: what stands before that, one such mark, and what stands behind.
+abbrev mark_shape : Mark → Shape
+mark_shape (leaf_mark ks) = leaf_of ks
+mark_shape (node_mark ks) = node_of ks
+
+abbrev unmarked : Mark → Option Shape → Option Shape
+unmarked m None = None
+unmarked m (Some s) = without m s
+
+abbrev none_before : Mark → Mark → Shape → Option Shape
+none_before m n s = in_row (unmarked m (front n s)) (in_row (Some (mark_shape n)) (back n s))
+
+unmarked_so : (m : Mark) (o : Option Shape) (cs : List Child) → SpellsSome o cs → has_mark (is_mark m) cs ≡ false
+    → SpellsSome (unmarked m o) cs
+unmarked_so m None cs s h = absurd s
+unmarked_so m (Some s) cs t h = without_so m t h
+
+mark_so : (m : Mark) (c : Child) → is_mark m c ≡ true → Spells (mark_shape m) (c ∷ [])
+mark_so (leaf_mark ks) (leaf_child k) h = a_leaf h
+mark_so (leaf_mark ks) (node_child k) h = absurd cc
+mark_so (leaf_mark ks) message_child h = absurd cc
+mark_so (leaf_mark ks) float_child h = absurd cc
+mark_so (node_mark ks) (leaf_child k) h = absurd cc
+mark_so (node_mark ks) (node_child k) h = a_node h
+mark_so (node_mark ks) message_child h = absurd cc
+mark_so (node_mark ks) float_child h = absurd cc
+
+none_before_so : (m n : Mark) {s : Shape} {cs : List Child} → Spells s cs → has_mark (is_mark m) (before_first (is_mark n) cs) ≡ false
+    → SpellsSome (either (none_before m n s) (without m s)) cs
+none_before_so m n {s = s} {cs = cs} t h =
+    by_bool (has_mark (is_mark n) cs)
+    (λ e.
+    let r = first_mark (is_mark n) cs e in
+    either_first (none_before m n s) (without m s) cs
+    (subst (λ (l : List Child). SpellsSome (none_before m n s) l) (sym r.all)
+    (row_so (unmarked m (front n s)) (in_row (Some (mark_shape n)) (back n s)) (before_first (is_mark n) cs)
+    (r.one ∷ behind_first (is_mark n) cs) (unmarked_so m (front n s) (before_first (is_mark n) cs) (front_so n t e) h)
+    (row_so (Some (mark_shape n)) (back n s) (r.one ∷ []) (behind_first (is_mark n) cs) (mark_so n r.one r.is_one)
+    (back_so n t e)))))
+    (λ e.
+    either_second (none_before m n s) (without m s) cs
+    (without_so m t (subst (λ (l : List Child). has_mark (is_mark m) l ≡ false) (first_none (is_mark n) cs e) h)))
+
+-- What stands before the last mark of a shape that there may not be.
+abbrev on_some : Option Shape → (Shape → Option Shape) → Option Shape
+on_some None f = None
+on_some (Some s) f = f s
+
+last_on : (m : Mark) (o : Option Shape) (cs : List Child) → SpellsSome o cs → has_mark (is_mark m) cs ≡ true
+    → SpellsSome (on_some o (front_last m)) (before_last (is_mark m) cs)
+last_on m None cs s h = absurd s
+last_on m (Some s) cs t h = last_so m t h
+
 abbrev cut_shape : Cut → Shape → Option Shape
+cut_shape whole s = Some s
 cut_shape (until m) s = either (front m s) (without m s)
 cut_shape (until_last m) s = either (front_last m s) (without m s)
 cut_shape (only_until m) s = either (front m s) (empty_if (without m s))
 cut_shape (behind m) s = either (back m s) (empty_if (without m s))
 cut_shape (past m) s = either (back m s) (without m s)
+cut_shape (until_last_before m n) s =
+    either (on_some (either (front n s) (without n s)) (front_last m)) (either (none_before m n s) (without m s))
+cut_shape (past_before m n) s = either (back m s) (either (none_before m n s) (without m s))
 
 -- where there is a mark, and where there is none
 two_ways : (m : Mark) (a b : Option Shape) (cs xs ys zs : List Child)
-    → (has_mark m cs ≡ true → SpellsSome a xs) → (has_mark m cs ≡ true → zs ≡ xs)
-    → (has_mark m cs ≡ false → SpellsSome b ys) → (has_mark m cs ≡ false → zs ≡ ys) → SpellsSome (either a b) zs
+    → (has_mark (is_mark m) cs ≡ true → SpellsSome a xs) → (has_mark (is_mark m) cs ≡ true → zs ≡ xs)
+    → (has_mark (is_mark m) cs ≡ false → SpellsSome b ys) → (has_mark (is_mark m) cs ≡ false → zs ≡ ys) → SpellsSome (either a b) zs
 two_ways m a b cs xs ys zs f e g i =
-    by_bool (has_mark m cs)
+    by_bool (has_mark (is_mark m) cs)
     (λ h. subst (λ (l : List Child). SpellsSome (either a b) l) (sym (e h)) (either_first a b xs (f h)))
     (λ h. subst (λ (l : List Child). SpellsSome (either a b) l) (sym (i h)) (either_second a b ys (g h)))
 
-cut_so : (c : Cut) {s : Shape} {cs : List Child} → Spells s cs → SpellsSome (cut_shape c s) (cut c cs)
-cut_so (until m) {s = s} {cs = cs} t =
-    two_ways m (front m s) (without m s) cs (before_first m cs) cs (before_first m cs) (λ h. front_so m t h) (λ h. refl)
-    (λ h. without_so m t h) (λ h. first_none m cs h)
+until_so : (m : Mark) {s : Shape} {cs : List Child} → Spells s cs
+    → SpellsSome (either (front m s) (without m s)) (before_first (is_mark m) cs)
+until_so m {s = s} {cs = cs} t =
+    let p : Child → Bool = is_mark m in
+    two_ways m (front m s) (without m s) cs (before_first p cs) cs (before_first p cs) (λ h. front_so m t h)
+    (λ h. refl) (λ h. without_so m t h) (λ h. first_none p cs h)
+
+cut_so : (c : Cut) {s : Shape} {cs : List Child} → Spells s cs → SpellsSome (cut_shape c s) (cut (λ d. d) c cs)
+cut_so whole {s = s} {cs = cs} t = t
+cut_so (until m) t = until_so m t
 cut_so (until_last m) {s = s} {cs = cs} t =
-    two_ways m (front_last m s) (without m s) cs (before_last m cs) cs (before_last m cs) (λ h. last_so m t h) (λ h. refl)
-    (λ h. without_so m t h) (λ h. last_none m cs h)
+    let p : Child → Bool = is_mark m in
+    two_ways m (front_last m s) (without m s) cs (before_last p cs) cs (before_last p cs) (λ h. last_so m t h)
+    (λ h. refl) (λ h. without_so m t h) (λ h. last_none p cs h)
 cut_so (only_until m) {s = s} {cs = cs} t =
-    two_ways m (front m s) (empty_if (without m s)) cs (before_first m cs) [] (if has_mark m cs then before_first m cs else [])
-    (λ h. front_so m t h) (λ h. if_true (has_mark m cs) (before_first m cs) [] h)
-    (λ h. empty_so (without m s) cs (without_so m t h)) (λ h. if_false (has_mark m cs) (before_first m cs) [] h)
+    let p : Child → Bool = is_mark m in
+    two_ways m (front m s) (empty_if (without m s)) cs (before_first p cs) []
+    (if has_mark p cs then before_first p cs else []) (λ h. front_so m t h)
+    (λ h. if_true (has_mark p cs) (before_first p cs) [] h) (λ h. empty_so (without m s) cs (without_so m t h))
+    (λ h. if_false (has_mark p cs) (before_first p cs) [] h)
 cut_so (behind m) {s = s} {cs = cs} t =
-    two_ways m (back m s) (empty_if (without m s)) cs (behind_first m cs) [] (behind_first m cs)
-    (λ h. back_so m t h) (λ h. refl)
-    (λ h. empty_so (without m s) cs (without_so m t h)) (λ h. behind_none m cs h)
+    let p : Child → Bool = is_mark m in
+    two_ways m (back m s) (empty_if (without m s)) cs (behind_first p cs) [] (behind_first p cs) (λ h. back_so m t h)
+    (λ h. refl) (λ h. empty_so (without m s) cs (without_so m t h)) (λ h. behind_none p cs h)
 cut_so (past m) {s = s} {cs = cs} t =
-    two_ways m (back m s) (without m s) cs (behind_first m cs) cs (if has_mark m cs then behind_first m cs else cs)
-    (λ h. back_so m t h) (λ h. if_true (has_mark m cs) (behind_first m cs) cs h)
-    (λ h. without_so m t h) (λ h. if_false (has_mark m cs) (behind_first m cs) cs h)
-
-abbrev on_some : Option Shape → (Shape → Option Shape) → Option Shape
-on_some None f = None
-on_some (Some s) f = f s
-
-abbrev part_shape : List Cut → Option Shape → Option Shape
-part_shape [] o = o
-part_shape (c ∷ cuts) o = part_shape cuts (on_some o (cut_shape c))
-
-on_so : (c : Cut) (o : Option Shape) (cs : List Child) → SpellsSome o cs → SpellsSome (on_some o (cut_shape c)) (cut c cs)
-on_so c None cs t = absurd t
-on_so c (Some s) cs t = cut_so c t
-
-part_so : (cuts : List Cut) (o : Option Shape) (cs : List Child) → SpellsSome o cs
-    → SpellsSome (part_shape cuts o) (part cuts cs)
-part_so [] o cs t = t
-part_so (c ∷ cuts) o cs t = part_so cuts (on_some o (cut_shape c)) (cut c cs) (on_so c o cs t)
+    let p : Child → Bool = is_mark m in
+    two_ways m (back m s) (without m s) cs (behind_first p cs) cs (if has_mark p cs then behind_first p cs else cs)
+    (λ h. back_so m t h) (λ h. if_true (has_mark p cs) (behind_first p cs) cs h) (λ h. without_so m t h)
+    (λ h. if_false (has_mark p cs) (behind_first p cs) cs h)
+cut_so (until_last_before m n) {s = s} {cs = cs} t =
+    let p : Child → Bool = is_mark m in
+    let zs = before_first (is_mark n) cs in
+    two_ways m (on_some (either (front n s) (without n s)) (front_last m)) (either (none_before m n s) (without m s))
+    zs (before_last p zs) cs (if has_mark p zs then before_last p zs else cs)
+    (λ h. last_on m (either (front n s) (without n s)) zs (until_so n t) h)
+    (λ h. if_true (has_mark p zs) (before_last p zs) cs h) (λ h. none_before_so m n t h)
+    (λ h. if_false (has_mark p zs) (before_last p zs) cs h)
+cut_so (past_before m n) {s = s} {cs = cs} t =
+    let p : Child → Bool = is_mark m in
+    let zs = before_first (is_mark n) cs in
+    two_ways m (back m s) (either (none_before m n s) (without m s)) zs (behind_first p cs) cs
+    (if has_mark p zs then behind_first p cs else cs) (λ h. back_so m t (some_before p (is_mark n) cs h))
+    (λ h. if_true (has_mark p zs) (behind_first p cs) cs h) (λ h. none_before_so m n t h)
+    (λ h. if_false (has_mark p zs) (behind_first p cs) cs h)
 
 -- what is computed of a field
 abbrev some_fits : Option Shape → Field → Bool
 some_fits None f = true
 some_fits (Some s) f = fits s f
 
-abbrev placed_fits : Shape → PlacedField → Bool
-placed_fits s p = some_fits (part_shape p.cuts (Some s)) p.field
+abbrev placed_fits : Shape → FieldRow → Bool
+placed_fits s p = some_fits (cut_shape p.cut s) p.field
 
-abbrev all_placed : Shape → List PlacedField → Bool
+abbrev all_placed : Shape → List FieldRow → Bool
 all_placed s [] = true
 all_placed s (p ∷ ps) = placed_fits s p && all_placed s ps
 
-abbrev each_placed : List (ℕ × List PlacedField) → Bool
+abbrev each_placed : List (ℕ × List FieldRow) → Bool
 each_placed [] = true
 each_placed (row ∷ rows) = all_placed (shape_of row.0) row.1 && each_placed rows
 
@@ -583,13 +505,13 @@ some_fills : (o : Option Shape) (f : Field) (cs : List Child) → some_fits o f 
 some_fills None f cs h t = absurd t
 some_fills (Some s) f cs h t = fills s f cs h t
 
-one_placed : (s : Shape) (ps : List PlacedField) (p : PlacedField) → all_placed s ps ≡ true → IsOne p ps
+one_placed : (s : Shape) (ps : List FieldRow) (p : FieldRow) → all_placed s ps ≡ true → IsOne p ps
     → placed_fits s p ≡ true
 one_placed s [] p h i = elim i [ ]
 one_placed s (q ∷ ps) p h first = and_left (placed_fits s q) (all_placed s ps) h
 one_placed s (q ∷ ps) p h (later i) = one_placed s ps p (and_right (placed_fits s q) (all_placed s ps) h) i
 
-row_placed : (rows : List (ℕ × List PlacedField)) (kind : ℕ) (ps : List PlacedField) → each_placed rows ≡ true
+row_placed : (rows : List (ℕ × List FieldRow)) (kind : ℕ) (ps : List FieldRow) → each_placed rows ≡ true
     → IsOne (kind, ps) rows → all_placed (shape_of kind) ps ≡ true
 row_placed [] kind ps h i = elim i [ ]
 row_placed (row ∷ rows) kind ps h first = and_left (all_placed (shape_of kind) ps) (each_placed rows) h
@@ -598,6 +520,5 @@ row_placed (row ∷ rows) kind ps h (later i) =
 
 pub placed_filled : PlacedFieldsAreFilled
 placed_filled kind ps p i j cs s =
-    some_fills (part_shape p.cuts (Some (shape_of kind))) p.field (part p.cuts cs)
-    (one_placed (shape_of kind) ps p (row_placed placed kind ps placed_so i) j)
-    (part_so p.cuts (Some (shape_of kind)) cs s)
+    some_fills (cut_shape p.cut (shape_of kind)) p.field (cut (λ c. c) p.cut cs)
+    (one_placed (shape_of kind) ps p (row_placed placed kind ps placed_so i) j) (cut_so p.cut s)

@@ -1,8 +1,8 @@
 -- The children that shapes spell fill the fields.
 use Rattle.std.specs.Prelude.{◌≡◌, ℕ, true, List, ◌∷◌}
-use Rattle.rap_fields.specs.Field.{Field, Fills, nodes_are, together}
+use Rattle.rap_fields.specs.Field.{Fills, nodes_are, together}
 use Rattle.rap_fields.specs.Found.{found}
-use Rattle.rap_fields.specs.Place.{PlacedField, part}
+use Rattle.rap_fields.specs.Place.{FieldRow, cut}
 use Rattle.rap_fields.specs.PlacedRows.{placed}
 use Rattle.rap_fields.specs.Rows.{fields}
 use Rattle.rap_grammar_shapes.specs.Parts.{ShapeSays}
@@ -15,13 +15,14 @@ pub data IsOne {A : Type 0} (a : A) : List A → Type 0 where
 -- Whatever children the shape of a kind spells: of each field of the kind as many are there as the field says.
 abbrev pub FieldsAreFilled : Type 0
 FieldsAreFilled =
-    (kind : ℕ) (fs : List Field) (f : Field) → IsOne (kind, fs) fields → IsOne f fs → ShapeSays kind (Fills f)
+    (kind : ℕ) (rs : List FieldRow) (r : FieldRow) → IsOne (kind, rs) fields → IsOne r rs →
+    ShapeSays kind (Fills r.field)
 
 -- The same of the fields that are found by their places too, each in its part of the children.
 abbrev pub PlacedFieldsAreFilled : Type 0
 PlacedFieldsAreFilled =
-    (kind : ℕ) (ps : List PlacedField) (p : PlacedField) → IsOne (kind, ps) placed → IsOne p ps →
-    ShapeSays kind (λ cs. Fills p.field (part p.cuts cs))
+    (kind : ℕ) (rs : List FieldRow) (r : FieldRow) → IsOne (kind, rs) placed → IsOne r rs →
+    ShapeSays kind (λ cs. Fills r.field (cut (λ c. c) r.cut cs))
 
 -- Each that is a node is found by a field of the kind, or left out by name.
 abbrev pub NodesAreFound : Type 0

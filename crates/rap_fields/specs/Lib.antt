@@ -1,6 +1,7 @@
 pub mod Field
 pub mod FieldNames
 pub mod Filled
+pub mod Finds
 pub mod Found
 pub mod Place
 pub mod PlacedRows

@@ -4,82 +4,74 @@ use Rattle.std.specs.Prelude.{List, Some, [], ℕ, ◌∷◌}
 use Rattle.rap_base.specs.NodeKind.{ARRAY_EXPR, ASM_OPERAND_EXPR, BIN_EXPR, BLOCK_EXPR, FOR_EXPR, IF_EXPR, IMPL, INDEX_EXPR, MACRO_DEF, RANGE_EXPR, RANGE_PAT, TOKEN_TREE, TYPE_ALIAS, TYPE_ANCHOR, WHERE_CLAUSE, WHILE_EXPR}
 use Rattle.rap_base.specs.TokenKind.{AS_KW, DOT2, DOT2EQ, DOT3, ELSE_KW, EQ, FAT_ARROW, FOR_KW, L_BRACK, SEMICOLON}
 use Rattle.rap_fields.specs.Field.{any_number, at_most_one, between, exactly_one}
-use Rattle.rap_fields.specs.Place.{PlacedField, at, behind, leaf_mark, node_mark, only_until, past, until, until_last}
+use Rattle.rap_fields.specs.Place.{FieldRow, at, behind, leaf_mark, node_mark, only_until, past, past_before, until, until_last, until_last_before}
+use Rattle.rap_fields.specs.declared.rule.Which.TheVariants.{All, First, Last}
 use Rattle.rap_grammar_shapes.specs.Shapes.{expressions, operators, patterns, types}
+use Rattle.rap_fields.specs.FieldNames as field
 
--- ty path_type
-abbrev pub type_anchor_placed : List PlacedField
+abbrev pub type_anchor_placed : List FieldRow
 type_anchor_placed =
-    at (exactly_one types) (until (leaf_mark (AS_KW ∷ [])) ∷ []) ∷
-    at (at_most_one types) (behind (leaf_mark (AS_KW ∷ [])) ∷ []) ∷ []
+    at field.TY First (exactly_one types) (until (leaf_mark (AS_KW ∷ []))) ∷
+    at field.PATH_TYPE First (at_most_one types) (behind (leaf_mark (AS_KW ∷ []))) ∷ []
 
--- start end
-abbrev pub range_expr_placed : List PlacedField
+abbrev pub range_expr_placed : List FieldRow
 range_expr_placed =
-    at (at_most_one expressions) (until (leaf_mark (DOT2 ∷ DOT2EQ ∷ [])) ∷ []) ∷
-    at (at_most_one expressions) (behind (leaf_mark (DOT2 ∷ DOT2EQ ∷ [])) ∷ []) ∷ []
+    at field.START First (at_most_one expressions) (until (leaf_mark (DOT2 ∷ DOT2EQ ∷ []))) ∷
+    at field.END First (at_most_one expressions) (behind (leaf_mark (DOT2 ∷ DOT2EQ ∷ []))) ∷ []
 
--- lhs rhs
-abbrev pub bin_expr_placed : List PlacedField
+abbrev pub bin_expr_placed : List FieldRow
 bin_expr_placed =
-    at (exactly_one expressions) (until (leaf_mark operators) ∷ []) ∷
-    at (exactly_one expressions) (behind (leaf_mark operators) ∷ []) ∷ []
+    at field.LHS First (exactly_one expressions) (until (leaf_mark operators)) ∷
+    at field.RHS First (exactly_one expressions) (behind (leaf_mark operators)) ∷ []
 
--- base index
-abbrev pub index_expr_placed : List PlacedField
+abbrev pub index_expr_placed : List FieldRow
 index_expr_placed =
-    at (exactly_one expressions) (until (leaf_mark (L_BRACK ∷ [])) ∷ []) ∷
-    at (exactly_one expressions) (behind (leaf_mark (L_BRACK ∷ [])) ∷ []) ∷ []
+    at field.BASE First (exactly_one expressions) (until (leaf_mark (L_BRACK ∷ []))) ∷
+    at field.INDEX First (exactly_one expressions) (behind (leaf_mark (L_BRACK ∷ []))) ∷ []
 
--- exprs repeat
-abbrev pub array_expr_placed : List PlacedField
+abbrev pub array_expr_placed : List FieldRow
 array_expr_placed =
-    at (any_number expressions) (until (leaf_mark (SEMICOLON ∷ [])) ∷ []) ∷
-    at (at_most_one expressions) (behind (leaf_mark (SEMICOLON ∷ [])) ∷ []) ∷ []
+    at field.EXPRS All (any_number expressions) (until (leaf_mark (SEMICOLON ∷ []))) ∷
+    at field.REPEAT First (at_most_one expressions) (behind (leaf_mark (SEMICOLON ∷ []))) ∷ []
 
--- condition then_branch else_branch
-abbrev pub if_expr_placed : List PlacedField
+abbrev pub if_expr_placed : List FieldRow
 if_expr_placed =
-    at (exactly_one expressions) (until (leaf_mark (ELSE_KW ∷ [])) ∷ until_last (node_mark (BLOCK_EXPR ∷ [])) ∷ []) ∷
-    at (between 1 (Some 2) (BLOCK_EXPR ∷ [])) (until (leaf_mark (ELSE_KW ∷ [])) ∷ []) ∷
-    at (at_most_one (BLOCK_EXPR ∷ IF_EXPR ∷ [])) (behind (leaf_mark (ELSE_KW ∷ [])) ∷ []) ∷ []
+    at field.CONDITION First (exactly_one expressions) (until_last_before (node_mark (BLOCK_EXPR ∷ [])) (leaf_mark (ELSE_KW ∷ []))) ∷
+    at field.THEN_BRANCH Last (between 1 (Some 2) (BLOCK_EXPR ∷ [])) (until (leaf_mark (ELSE_KW ∷ []))) ∷
+    at field.ELSE_BRANCH First (at_most_one (BLOCK_EXPR ∷ IF_EXPR ∷ [])) (behind (leaf_mark (ELSE_KW ∷ []))) ∷ []
 
--- condition
-abbrev pub while_expr_placed : List PlacedField
-while_expr_placed = at (exactly_one expressions) (until_last (node_mark (BLOCK_EXPR ∷ [])) ∷ []) ∷ []
+abbrev pub while_expr_placed : List FieldRow
+while_expr_placed = at field.CONDITION First (exactly_one expressions) (until_last (node_mark (BLOCK_EXPR ∷ []))) ∷ []
 
--- iterable
-abbrev pub for_expr_placed : List PlacedField
-for_expr_placed = at (exactly_one expressions) (until_last (node_mark (BLOCK_EXPR ∷ [])) ∷ []) ∷ []
+abbrev pub for_expr_placed : List FieldRow
+for_expr_placed = at field.ITERABLE First (exactly_one expressions) (until_last (node_mark (BLOCK_EXPR ∷ []))) ∷ []
 
--- in_expr out_expr
-abbrev pub asm_operand_expr_placed : List PlacedField
+abbrev pub asm_operand_expr_placed : List FieldRow
 asm_operand_expr_placed =
-    at (exactly_one expressions) (until (leaf_mark (FAT_ARROW ∷ [])) ∷ []) ∷
-    at (at_most_one expressions) (behind (leaf_mark (FAT_ARROW ∷ [])) ∷ []) ∷ []
+    at field.IN_EXPR First (exactly_one expressions) (until (leaf_mark (FAT_ARROW ∷ []))) ∷
+    at field.OUT_EXPR First (at_most_one expressions) (behind (leaf_mark (FAT_ARROW ∷ []))) ∷ []
 
--- where_clause
-abbrev pub type_alias_placed : List PlacedField
-type_alias_placed = at (between 0 (Some 2) (WHERE_CLAUSE ∷ [])) (until (leaf_mark (EQ ∷ [])) ∷ []) ∷ []
+abbrev pub type_alias_placed : List FieldRow
+type_alias_placed =
+    at field.WHERE_CLAUSE First (between 0 (Some 2) (WHERE_CLAUSE ∷ [])) (until (leaf_mark (EQ ∷ []))) ∷
+    at field.TRAILING_WHERE_CLAUSE First (at_most_one (WHERE_CLAUSE ∷ [])) (past_before (node_mark (WHERE_CLAUSE ∷ [])) (leaf_mark (EQ ∷ []))) ∷
+    []
 
--- args
-abbrev pub macro_def_placed : List PlacedField
-macro_def_placed = at (at_most_one (TOKEN_TREE ∷ [])) (until_last (node_mark (TOKEN_TREE ∷ [])) ∷ []) ∷ []
+abbrev pub macro_def_placed : List FieldRow
+macro_def_placed = at field.ARGS First (at_most_one (TOKEN_TREE ∷ [])) (until_last (node_mark (TOKEN_TREE ∷ []))) ∷ []
 
--- trait_ self_ty
-abbrev pub impl_placed : List PlacedField
+abbrev pub impl_placed : List FieldRow
 impl_placed =
-    at (at_most_one types) (only_until (leaf_mark (FOR_KW ∷ [])) ∷ []) ∷
-    at (exactly_one types) (past (leaf_mark (FOR_KW ∷ [])) ∷ []) ∷ []
+    at field.TRAIT_ First (at_most_one types) (only_until (leaf_mark (FOR_KW ∷ []))) ∷
+    at field.SELF_TY First (exactly_one types) (past (leaf_mark (FOR_KW ∷ []))) ∷ []
 
--- start end
-abbrev pub range_pat_placed : List PlacedField
+abbrev pub range_pat_placed : List FieldRow
 range_pat_placed =
-    at (at_most_one patterns) (until (leaf_mark (DOT2 ∷ DOT3 ∷ DOT2EQ ∷ [])) ∷ []) ∷
-    at (at_most_one patterns) (behind (leaf_mark (DOT2 ∷ DOT3 ∷ DOT2EQ ∷ [])) ∷ []) ∷ []
+    at field.START First (at_most_one patterns) (until (leaf_mark (DOT2 ∷ DOT3 ∷ DOT2EQ ∷ []))) ∷
+    at field.END First (at_most_one patterns) (behind (leaf_mark (DOT2 ∷ DOT3 ∷ DOT2EQ ∷ []))) ∷ []
 
 -- of each kind
-abbrev pub placed : List (ℕ × List PlacedField)
+abbrev pub placed : List (ℕ × List FieldRow)
 placed =
     (TYPE_ANCHOR, type_anchor_placed) ∷ (RANGE_EXPR, range_expr_placed) ∷ (BIN_EXPR, bin_expr_placed) ∷
     (INDEX_EXPR, index_expr_placed) ∷ (ARRAY_EXPR, array_expr_placed) ∷ (IF_EXPR, if_expr_placed) ∷

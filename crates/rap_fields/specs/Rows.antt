@@ -3,704 +3,689 @@
 use Rattle.std.specs.Prelude.{List, Some, [], ℕ, ◌∷◌}
 use Rattle.rap_base.specs.NodeKind.{ABI, ARG_LIST, ARRAY_EXPR, ARRAY_TYPE, ASM_CLOBBER_ABI, ASM_CONST, ASM_DIR_SPEC, ASM_EXPR, ASM_LABEL, ASM_OPERAND_EXPR, ASM_OPERAND_NAMED, ASM_OPTION, ASM_OPTIONS, ASM_REG_OPERAND, ASM_REG_SPEC, ASM_SYM, ASSOC_ITEM_LIST, ASSOC_TYPE_ARG, ATTR, AWAIT_EXPR, BECOME_EXPR, BLOCK_EXPR, BOX_PAT, BREAK_EXPR, CALL_EXPR, CAST_EXPR, CFG_ATOM, CFG_ATTR_META, CFG_COMPOSITE, CFG_META, CFG_PRED_EXPR, CFG_PRED_PAT, CLOSURE_EXPR, CONST, CONST_ARG, CONST_BLOCK_PAT, CONST_PARAM, CONTINUE_EXPR, DEREF_PAT, DYN_TRAIT_TYPE, ENUM, EXPR_STMT, EXTERN_BLOCK, EXTERN_CRATE, EXTERN_ITEM_LIST, FIELD_EXPR, FN, FN_PTR_TYPE, FORMAT_ARGS_ARG, FORMAT_ARGS_EXPR, FOR_BINDER, FOR_EXPR, FOR_TYPE, GENERIC_ARG_LIST, GENERIC_PARAM_LIST, IDENT_PAT, IF_EXPR, IMPL, IMPL_RESTRICTION, IMPL_TRAIT_TYPE, INCLUDE_BYTES_EXPR, INDEX_EXPR, ITEM_LIST, KEY_VALUE_META, LABEL, LET_ELSE, LET_EXPR, LET_STMT, LIFETIME, LIFETIME_ARG, LIFETIME_PARAM, LITERAL, LITERAL_PAT, LOOP_EXPR, MACRO_CALL, MACRO_DEF, MACRO_EXPR, MACRO_ITEMS, MACRO_PAT, MACRO_RULES, MACRO_STMTS, MACRO_TYPE, MATCH_ARM, MATCH_ARM_LIST, MATCH_EXPR, MATCH_GUARD, METHOD_CALL_EXPR, MODULE, MUT_RESTRICTION, NAME, NAME_REF, NOT_NULL, OFFSET_OF_EXPR, OR_PAT, PARAM, PARAM_LIST, PARENTHESIZED_ARG_LIST, PAREN_EXPR, PAREN_PAT, PAREN_TYPE, PATH, PATH_EXPR, PATH_META, PATH_PAT, PATH_SEGMENT, PATH_TYPE, PATTERN_TYPE, PREFIX_EXPR, PTR_TYPE, RANGE_EXPR, RECORD_EXPR, RECORD_EXPR_FIELD, RECORD_EXPR_FIELD_LIST, RECORD_FIELD, RECORD_FIELD_LIST, RECORD_PAT, RECORD_PAT_FIELD, RECORD_PAT_FIELD_LIST, REF_EXPR, REF_PAT, REF_TYPE, RENAME, REST_PAT, RETURN_EXPR, RETURN_TYPE_SYNTAX, RET_TYPE, SELF_PARAM, SLICE_PAT, SLICE_TYPE, SOURCE_FILE, STATIC, STMT_LIST, STRUCT, TOKEN_TREE, TOKEN_TREE_META, TRAIT, TRY_BLOCK_MODIFIER, TRY_EXPR, TUPLE_EXPR, TUPLE_FIELD, TUPLE_FIELD_LIST, TUPLE_PAT, TUPLE_STRUCT_PAT, TUPLE_TYPE, TYPE_ALIAS, TYPE_ANCHOR, TYPE_ARG, TYPE_BOUND, TYPE_BOUND_LIST, TYPE_PARAM, UNDERSCORE_EXPR, UNION, UNSAFE_META, USE, USE_BOUND_GENERIC_ARGS, USE_TREE, USE_TREE_LIST, VARIANT, VARIANT_LIST, VISIBILITY, VISIBILITY_INNER, WHERE_CLAUSE, WHERE_PRED, WHILE_EXPR, YEET_EXPR, YIELD_EXPR}
 use Rattle.rap_base.specs.TokenKind.{ERROR}
-use Rattle.rap_fields.specs.Field.{Field, any_number, at_least_one, at_most_one, attrs, between, doc_comments, exactly_one}
+use Rattle.rap_fields.specs.Field.{any_number, at_least_one, at_most_one, between, exactly_one}
+use Rattle.rap_fields.specs.Place.{FieldRow, anywhere, attributes, documentation}
+use Rattle.rap_fields.specs.declared.rule.Which.TheVariants.{All, First, Last}
 use Rattle.rap_grammar_shapes.specs.Shapes.{expressions, generic_arguments, generic_parameters, items, metas, patterns, types}
+use Rattle.rap_fields.specs.FieldNames as field
 
--- attrs doc_comments path
-abbrev pub error_fields : List Field
-error_fields = attrs ∷ doc_comments ∷ exactly_one (PATH ∷ []) ∷ []
+abbrev pub error_fields : List FieldRow
+error_fields = attributes ∷ documentation ∷ anywhere field.PATH First (exactly_one (PATH ∷ [])) ∷ []
 
--- attrs doc_comments items
-abbrev pub source_file_fields : List Field
-source_file_fields = attrs ∷ doc_comments ∷ any_number items ∷ []
+abbrev pub source_file_fields : List FieldRow
+source_file_fields = attributes ∷ documentation ∷ anywhere field.ITEMS All (any_number items) ∷ []
 
--- statements expr
-abbrev pub macro_stmts_fields : List Field
-macro_stmts_fields = any_number (LET_STMT ∷ EXPR_STMT ∷ items) ∷ any_number expressions ∷ []
+abbrev pub macro_stmts_fields : List FieldRow
+macro_stmts_fields =
+    anywhere field.STATEMENTS All (any_number (LET_STMT ∷ EXPR_STMT ∷ items)) ∷
+    anywhere field.EXPR First (any_number expressions) ∷ []
 
--- attrs doc_comments items
-abbrev pub macro_items_fields : List Field
-macro_items_fields = attrs ∷ doc_comments ∷ any_number items ∷ []
+abbrev pub macro_items_fields : List FieldRow
+macro_items_fields = attributes ∷ documentation ∷ anywhere field.ITEMS All (any_number items) ∷ []
 
--- visibility_inner
-abbrev pub visibility_fields : List Field
-visibility_fields = at_most_one (VISIBILITY_INNER ∷ []) ∷ []
+abbrev pub visibility_fields : List FieldRow
+visibility_fields = anywhere field.VISIBILITY_INNER First (at_most_one (VISIBILITY_INNER ∷ [])) ∷ []
 
--- path
-abbrev pub visibility_inner_fields : List Field
-visibility_inner_fields = exactly_one (PATH ∷ []) ∷ []
+abbrev pub visibility_inner_fields : List FieldRow
+visibility_inner_fields = anywhere field.PATH First (exactly_one (PATH ∷ [])) ∷ []
 
--- name
-abbrev pub rename_fields : List Field
-rename_fields = at_most_one (NAME ∷ []) ∷ []
+abbrev pub rename_fields : List FieldRow
+rename_fields = anywhere field.NAME First (at_most_one (NAME ∷ [])) ∷ []
 
--- ty
-abbrev pub ret_type_fields : List Field
-ret_type_fields = exactly_one types ∷ []
+abbrev pub ret_type_fields : List FieldRow
+ret_type_fields = anywhere field.TY First (exactly_one types) ∷ []
 
--- qualifier segment
-abbrev pub path_fields : List Field
-path_fields = at_most_one (PATH ∷ []) ∷ exactly_one (PATH_SEGMENT ∷ []) ∷ []
+abbrev pub path_fields : List FieldRow
+path_fields =
+    anywhere field.QUALIFIER First (at_most_one (PATH ∷ [])) ∷
+    anywhere field.SEGMENT First (exactly_one (PATH_SEGMENT ∷ [])) ∷ []
 
--- type_anchor name_ref generic_arg_list return_type_syntax parenthesized_arg_list ret_type
-abbrev pub path_segment_fields : List Field
+abbrev pub path_segment_fields : List FieldRow
 path_segment_fields =
-    at_most_one (TYPE_ANCHOR ∷ []) ∷ at_most_one (NAME_REF ∷ []) ∷ at_most_one (GENERIC_ARG_LIST ∷ []) ∷
-    at_most_one (RETURN_TYPE_SYNTAX ∷ []) ∷ at_most_one (PARENTHESIZED_ARG_LIST ∷ []) ∷ at_most_one (RET_TYPE ∷ []) ∷ []
+    anywhere field.TYPE_ANCHOR First (at_most_one (TYPE_ANCHOR ∷ [])) ∷
+    anywhere field.NAME_REF First (at_most_one (NAME_REF ∷ [])) ∷
+    anywhere field.GENERIC_ARG_LIST First (at_most_one (GENERIC_ARG_LIST ∷ [])) ∷
+    anywhere field.RETURN_TYPE_SYNTAX First (at_most_one (RETURN_TYPE_SYNTAX ∷ [])) ∷
+    anywhere field.PARENTHESIZED_ARG_LIST First (at_most_one (PARENTHESIZED_ARG_LIST ∷ [])) ∷
+    anywhere field.RET_TYPE First (at_most_one (RET_TYPE ∷ [])) ∷ []
 
--- type_args
-abbrev pub parenthesized_arg_list_fields : List Field
-parenthesized_arg_list_fields = any_number (TYPE_ARG ∷ []) ∷ []
+abbrev pub parenthesized_arg_list_fields : List FieldRow
+parenthesized_arg_list_fields = anywhere field.TYPE_ARGS All (any_number (TYPE_ARG ∷ [])) ∷ []
 
--- attrs doc_comments pat ty initializer let_else
-abbrev pub let_stmt_fields : List Field
+abbrev pub let_stmt_fields : List FieldRow
 let_stmt_fields =
-    attrs ∷ doc_comments ∷ exactly_one patterns ∷ at_most_one types ∷ at_most_one expressions ∷
-    at_most_one (LET_ELSE ∷ []) ∷ []
+    attributes ∷ documentation ∷ anywhere field.PAT First (exactly_one patterns) ∷
+    anywhere field.TY First (at_most_one types) ∷ anywhere field.INITIALIZER First (at_most_one expressions) ∷
+    anywhere field.LET_ELSE First (at_most_one (LET_ELSE ∷ [])) ∷ []
 
--- expr
-abbrev pub expr_stmt_fields : List Field
-expr_stmt_fields = exactly_one expressions ∷ []
+abbrev pub expr_stmt_fields : List FieldRow
+expr_stmt_fields = anywhere field.EXPR First (exactly_one expressions) ∷ []
 
--- block_expr
-abbrev pub let_else_fields : List Field
-let_else_fields = exactly_one (BLOCK_EXPR ∷ []) ∷ []
+abbrev pub let_else_fields : List FieldRow
+let_else_fields = anywhere field.BLOCK_EXPR First (exactly_one (BLOCK_EXPR ∷ [])) ∷ []
 
--- attrs doc_comments statements tail_expr
-abbrev pub stmt_list_fields : List Field
-stmt_list_fields = attrs ∷ doc_comments ∷ any_number (LET_STMT ∷ EXPR_STMT ∷ items) ∷ any_number expressions ∷ []
+abbrev pub stmt_list_fields : List FieldRow
+stmt_list_fields =
+    attributes ∷ documentation ∷ anywhere field.STATEMENTS All (any_number (LET_STMT ∷ EXPR_STMT ∷ items)) ∷
+    anywhere field.TAIL_EXPR First (any_number expressions) ∷ []
 
--- attrs doc_comments label try_block_modifier stmt_list
-abbrev pub block_expr_fields : List Field
+abbrev pub block_expr_fields : List FieldRow
 block_expr_fields =
-    attrs ∷ doc_comments ∷ at_most_one (LABEL ∷ []) ∷ at_most_one (TRY_BLOCK_MODIFIER ∷ []) ∷
-    exactly_one (STMT_LIST ∷ []) ∷ []
+    attributes ∷ documentation ∷ anywhere field.LABEL First (at_most_one (LABEL ∷ [])) ∷
+    anywhere field.TRY_BLOCK_MODIFIER First (at_most_one (TRY_BLOCK_MODIFIER ∷ [])) ∷
+    anywhere field.STMT_LIST First (exactly_one (STMT_LIST ∷ [])) ∷ []
 
--- lifetime
-abbrev pub label_fields : List Field
-label_fields = exactly_one (LIFETIME ∷ []) ∷ []
+abbrev pub label_fields : List FieldRow
+label_fields = anywhere field.LIFETIME First (exactly_one (LIFETIME ∷ [])) ∷ []
 
--- ty
-abbrev pub try_block_modifier_fields : List Field
-try_block_modifier_fields = at_most_one types ∷ []
+abbrev pub try_block_modifier_fields : List FieldRow
+try_block_modifier_fields = anywhere field.TY First (at_most_one types) ∷ []
 
--- attrs doc_comments
-abbrev pub range_expr_fields : List Field
-range_expr_fields = attrs ∷ doc_comments ∷ []
+abbrev pub range_expr_fields : List FieldRow
+range_expr_fields = attributes ∷ documentation ∷ []
 
--- attrs doc_comments expr
-abbrev pub ref_expr_fields : List Field
-ref_expr_fields = attrs ∷ doc_comments ∷ exactly_one expressions ∷ []
+abbrev pub ref_expr_fields : List FieldRow
+ref_expr_fields = attributes ∷ documentation ∷ anywhere field.EXPR First (exactly_one expressions) ∷ []
 
--- attrs doc_comments expr
-abbrev pub prefix_expr_fields : List Field
-prefix_expr_fields = attrs ∷ doc_comments ∷ at_most_one expressions ∷ []
+abbrev pub prefix_expr_fields : List FieldRow
+prefix_expr_fields = attributes ∷ documentation ∷ anywhere field.EXPR First (at_most_one expressions) ∷ []
 
--- attrs doc_comments expr arg_list
-abbrev pub call_expr_fields : List Field
-call_expr_fields = attrs ∷ doc_comments ∷ exactly_one expressions ∷ exactly_one (ARG_LIST ∷ []) ∷ []
+abbrev pub call_expr_fields : List FieldRow
+call_expr_fields =
+    attributes ∷ documentation ∷ anywhere field.EXPR First (exactly_one expressions) ∷
+    anywhere field.ARG_LIST First (exactly_one (ARG_LIST ∷ [])) ∷ []
 
--- attrs doc_comments
-abbrev pub index_expr_fields : List Field
-index_expr_fields = attrs ∷ doc_comments ∷ []
+abbrev pub index_expr_fields : List FieldRow
+index_expr_fields = attributes ∷ documentation ∷ []
 
--- attrs doc_comments receiver name_ref generic_arg_list arg_list
-abbrev pub method_call_expr_fields : List Field
+abbrev pub method_call_expr_fields : List FieldRow
 method_call_expr_fields =
-    attrs ∷ doc_comments ∷ exactly_one expressions ∷ exactly_one (NAME_REF ∷ []) ∷ at_most_one (GENERIC_ARG_LIST ∷ []) ∷
-    exactly_one (ARG_LIST ∷ []) ∷ []
+    attributes ∷ documentation ∷ anywhere field.RECEIVER First (exactly_one expressions) ∷
+    anywhere field.NAME_REF First (exactly_one (NAME_REF ∷ [])) ∷
+    anywhere field.GENERIC_ARG_LIST First (at_most_one (GENERIC_ARG_LIST ∷ [])) ∷
+    anywhere field.ARG_LIST First (exactly_one (ARG_LIST ∷ [])) ∷ []
 
--- attrs doc_comments expr name_ref
-abbrev pub field_expr_fields : List Field
-field_expr_fields = attrs ∷ doc_comments ∷ exactly_one expressions ∷ exactly_one (NAME_REF ∷ []) ∷ []
+abbrev pub field_expr_fields : List FieldRow
+field_expr_fields =
+    attributes ∷ documentation ∷ anywhere field.EXPR First (exactly_one expressions) ∷
+    anywhere field.NAME_REF First (exactly_one (NAME_REF ∷ [])) ∷ []
 
--- attrs doc_comments expr
-abbrev pub await_expr_fields : List Field
-await_expr_fields = attrs ∷ doc_comments ∷ exactly_one expressions ∷ []
+abbrev pub await_expr_fields : List FieldRow
+await_expr_fields = attributes ∷ documentation ∷ anywhere field.EXPR First (exactly_one expressions) ∷ []
 
--- attrs doc_comments expr
-abbrev pub try_expr_fields : List Field
-try_expr_fields = attrs ∷ doc_comments ∷ exactly_one expressions ∷ []
+abbrev pub try_expr_fields : List FieldRow
+try_expr_fields = attributes ∷ documentation ∷ anywhere field.EXPR First (exactly_one expressions) ∷ []
 
--- expr ty
-abbrev pub cast_expr_fields : List Field
-cast_expr_fields = exactly_one expressions ∷ exactly_one types ∷ []
+abbrev pub cast_expr_fields : List FieldRow
+cast_expr_fields =
+    anywhere field.EXPR First (exactly_one expressions) ∷ anywhere field.TY First (exactly_one types) ∷ []
 
--- args
-abbrev pub arg_list_fields : List Field
-arg_list_fields = any_number expressions ∷ []
+abbrev pub arg_list_fields : List FieldRow
+arg_list_fields = anywhere field.ARGS All (any_number expressions) ∷ []
 
--- attrs doc_comments path record_expr_field_list
-abbrev pub record_expr_fields : List Field
-record_expr_fields = attrs ∷ doc_comments ∷ exactly_one (PATH ∷ []) ∷ exactly_one (RECORD_EXPR_FIELD_LIST ∷ []) ∷ []
+abbrev pub record_expr_fields : List FieldRow
+record_expr_fields =
+    attributes ∷ documentation ∷ anywhere field.PATH First (exactly_one (PATH ∷ [])) ∷
+    anywhere field.RECORD_EXPR_FIELD_LIST First (exactly_one (RECORD_EXPR_FIELD_LIST ∷ [])) ∷ []
 
--- attrs doc_comments name_ref expr
-abbrev pub record_expr_field_fields : List Field
-record_expr_field_fields = attrs ∷ doc_comments ∷ at_most_one (NAME_REF ∷ []) ∷ exactly_one expressions ∷ []
+abbrev pub record_expr_field_fields : List FieldRow
+record_expr_field_fields =
+    attributes ∷ documentation ∷ anywhere field.NAME_REF First (at_most_one (NAME_REF ∷ [])) ∷
+    anywhere field.EXPR First (exactly_one expressions) ∷ []
 
--- fields attrs doc_comments spread
-abbrev pub record_expr_field_list_fields : List Field
-record_expr_field_list_fields = any_number (RECORD_EXPR_FIELD ∷ []) ∷ attrs ∷ doc_comments ∷ any_number expressions ∷ []
+abbrev pub record_expr_field_list_fields : List FieldRow
+record_expr_field_list_fields =
+    anywhere field.FIELDS All (any_number (RECORD_EXPR_FIELD ∷ [])) ∷ attributes ∷ documentation ∷
+    anywhere field.SPREAD First (any_number expressions) ∷ []
 
--- attrs doc_comments path token_tree
-abbrev pub macro_call_fields : List Field
-macro_call_fields = attrs ∷ doc_comments ∷ exactly_one (PATH ∷ []) ∷ exactly_one (TOKEN_TREE ∷ []) ∷ []
+abbrev pub macro_call_fields : List FieldRow
+macro_call_fields =
+    attributes ∷ documentation ∷ anywhere field.PATH First (exactly_one (PATH ∷ [])) ∷
+    anywhere field.TOKEN_TREE First (exactly_one (TOKEN_TREE ∷ [])) ∷ []
 
--- attrs doc_comments macro_call
-abbrev pub macro_expr_fields : List Field
-macro_expr_fields = attrs ∷ doc_comments ∷ exactly_one (MACRO_CALL ∷ []) ∷ []
+abbrev pub macro_expr_fields : List FieldRow
+macro_expr_fields = attributes ∷ documentation ∷ anywhere field.MACRO_CALL First (exactly_one (MACRO_CALL ∷ [])) ∷ []
 
--- attrs doc_comments path
-abbrev pub path_expr_fields : List Field
-path_expr_fields = attrs ∷ doc_comments ∷ exactly_one (PATH ∷ []) ∷ []
+abbrev pub path_expr_fields : List FieldRow
+path_expr_fields = attributes ∷ documentation ∷ anywhere field.PATH First (exactly_one (PATH ∷ [])) ∷ []
 
--- attrs doc_comments
-abbrev pub literal_fields : List Field
-literal_fields = attrs ∷ doc_comments ∷ []
+abbrev pub literal_fields : List FieldRow
+literal_fields = attributes ∷ documentation ∷ []
 
--- attrs doc_comments
-abbrev pub underscore_expr_fields : List Field
-underscore_expr_fields = attrs ∷ doc_comments ∷ []
+abbrev pub underscore_expr_fields : List FieldRow
+underscore_expr_fields = attributes ∷ documentation ∷ []
 
--- attrs doc_comments expr
-abbrev pub paren_expr_fields : List Field
-paren_expr_fields = attrs ∷ doc_comments ∷ exactly_one expressions ∷ []
+abbrev pub paren_expr_fields : List FieldRow
+paren_expr_fields = attributes ∷ documentation ∷ anywhere field.EXPR First (exactly_one expressions) ∷ []
 
--- attrs doc_comments fields
-abbrev pub tuple_expr_fields : List Field
-tuple_expr_fields = attrs ∷ doc_comments ∷ any_number expressions ∷ []
+abbrev pub tuple_expr_fields : List FieldRow
+tuple_expr_fields = attributes ∷ documentation ∷ anywhere field.FIELDS All (any_number expressions) ∷ []
 
--- attrs doc_comments
-abbrev pub array_expr_fields : List Field
-array_expr_fields = attrs ∷ doc_comments ∷ []
+abbrev pub array_expr_fields : List FieldRow
+array_expr_fields = attributes ∷ documentation ∷ []
 
--- attrs doc_comments for_binder param_list ret_type body
-abbrev pub closure_expr_fields : List Field
+abbrev pub closure_expr_fields : List FieldRow
 closure_expr_fields =
-    attrs ∷ doc_comments ∷ at_most_one (FOR_BINDER ∷ []) ∷ exactly_one (PARAM_LIST ∷ []) ∷ at_most_one (RET_TYPE ∷ []) ∷
-    exactly_one expressions ∷ []
+    attributes ∷ documentation ∷ anywhere field.FOR_BINDER First (at_most_one (FOR_BINDER ∷ [])) ∷
+    anywhere field.PARAM_LIST First (exactly_one (PARAM_LIST ∷ [])) ∷
+    anywhere field.RET_TYPE First (at_most_one (RET_TYPE ∷ [])) ∷ anywhere field.BODY First (exactly_one expressions) ∷
+    []
 
--- attrs doc_comments
-abbrev pub if_expr_fields : List Field
-if_expr_fields = attrs ∷ doc_comments ∷ []
+abbrev pub if_expr_fields : List FieldRow
+if_expr_fields = attributes ∷ documentation ∷ []
 
--- attrs doc_comments label loop_body
-abbrev pub loop_expr_fields : List Field
-loop_expr_fields = attrs ∷ doc_comments ∷ at_most_one (LABEL ∷ []) ∷ exactly_one (BLOCK_EXPR ∷ []) ∷ []
+abbrev pub loop_expr_fields : List FieldRow
+loop_expr_fields =
+    attributes ∷ documentation ∷ anywhere field.LABEL First (at_most_one (LABEL ∷ [])) ∷
+    anywhere field.LOOP_BODY First (exactly_one (BLOCK_EXPR ∷ [])) ∷ []
 
--- attrs doc_comments label loop_body
-abbrev pub while_expr_fields : List Field
-while_expr_fields = attrs ∷ doc_comments ∷ at_most_one (LABEL ∷ []) ∷ between 1 (Some 2) (BLOCK_EXPR ∷ []) ∷ []
+abbrev pub while_expr_fields : List FieldRow
+while_expr_fields =
+    attributes ∷ documentation ∷ anywhere field.LABEL First (at_most_one (LABEL ∷ [])) ∷
+    anywhere field.LOOP_BODY Last (between 1 (Some 2) (BLOCK_EXPR ∷ [])) ∷ []
 
--- attrs doc_comments label pat loop_body
-abbrev pub for_expr_fields : List Field
+abbrev pub for_expr_fields : List FieldRow
 for_expr_fields =
-    attrs ∷ doc_comments ∷ at_most_one (LABEL ∷ []) ∷ exactly_one patterns ∷ between 1 (Some 2) (BLOCK_EXPR ∷ []) ∷ []
+    attributes ∷ documentation ∷ anywhere field.LABEL First (at_most_one (LABEL ∷ [])) ∷
+    anywhere field.PAT First (exactly_one patterns) ∷
+    anywhere field.LOOP_BODY Last (between 1 (Some 2) (BLOCK_EXPR ∷ [])) ∷ []
 
--- attrs doc_comments pat expr
-abbrev pub let_expr_fields : List Field
-let_expr_fields = attrs ∷ doc_comments ∷ exactly_one patterns ∷ exactly_one expressions ∷ []
+abbrev pub let_expr_fields : List FieldRow
+let_expr_fields =
+    attributes ∷ documentation ∷ anywhere field.PAT First (exactly_one patterns) ∷
+    anywhere field.EXPR First (exactly_one expressions) ∷ []
 
--- attrs doc_comments expr match_arm_list
-abbrev pub match_expr_fields : List Field
-match_expr_fields = attrs ∷ doc_comments ∷ exactly_one expressions ∷ exactly_one (MATCH_ARM_LIST ∷ []) ∷ []
+abbrev pub match_expr_fields : List FieldRow
+match_expr_fields =
+    attributes ∷ documentation ∷ anywhere field.EXPR First (exactly_one expressions) ∷
+    anywhere field.MATCH_ARM_LIST First (exactly_one (MATCH_ARM_LIST ∷ [])) ∷ []
 
--- attrs doc_comments arms
-abbrev pub match_arm_list_fields : List Field
-match_arm_list_fields = attrs ∷ doc_comments ∷ any_number (MATCH_ARM ∷ []) ∷ []
+abbrev pub match_arm_list_fields : List FieldRow
+match_arm_list_fields = attributes ∷ documentation ∷ anywhere field.ARMS All (any_number (MATCH_ARM ∷ [])) ∷ []
 
--- attrs doc_comments pat guard expr
-abbrev pub match_arm_fields : List Field
+abbrev pub match_arm_fields : List FieldRow
 match_arm_fields =
-    attrs ∷ doc_comments ∷ exactly_one patterns ∷ at_most_one (MATCH_GUARD ∷ []) ∷ exactly_one expressions ∷ []
+    attributes ∷ documentation ∷ anywhere field.PAT First (exactly_one patterns) ∷
+    anywhere field.GUARD First (at_most_one (MATCH_GUARD ∷ [])) ∷ anywhere field.EXPR First (exactly_one expressions) ∷
+    []
 
--- condition
-abbrev pub match_guard_fields : List Field
-match_guard_fields = exactly_one expressions ∷ []
+abbrev pub match_guard_fields : List FieldRow
+match_guard_fields = anywhere field.CONDITION First (exactly_one expressions) ∷ []
 
--- attrs doc_comments expr
-abbrev pub return_expr_fields : List Field
-return_expr_fields = attrs ∷ doc_comments ∷ at_most_one expressions ∷ []
+abbrev pub return_expr_fields : List FieldRow
+return_expr_fields = attributes ∷ documentation ∷ anywhere field.EXPR First (at_most_one expressions) ∷ []
 
--- attrs doc_comments expr
-abbrev pub become_expr_fields : List Field
-become_expr_fields = attrs ∷ doc_comments ∷ exactly_one expressions ∷ []
+abbrev pub become_expr_fields : List FieldRow
+become_expr_fields = attributes ∷ documentation ∷ anywhere field.EXPR First (exactly_one expressions) ∷ []
 
--- attrs doc_comments expr
-abbrev pub yield_expr_fields : List Field
-yield_expr_fields = attrs ∷ doc_comments ∷ at_most_one expressions ∷ []
+abbrev pub yield_expr_fields : List FieldRow
+yield_expr_fields = attributes ∷ documentation ∷ anywhere field.EXPR First (at_most_one expressions) ∷ []
 
--- attrs doc_comments expr
-abbrev pub yeet_expr_fields : List Field
-yeet_expr_fields = attrs ∷ doc_comments ∷ at_most_one expressions ∷ []
+abbrev pub yeet_expr_fields : List FieldRow
+yeet_expr_fields = attributes ∷ documentation ∷ anywhere field.EXPR First (at_most_one expressions) ∷ []
 
--- attrs doc_comments lifetime
-abbrev pub continue_expr_fields : List Field
-continue_expr_fields = attrs ∷ doc_comments ∷ at_most_one (LIFETIME ∷ []) ∷ []
+abbrev pub continue_expr_fields : List FieldRow
+continue_expr_fields = attributes ∷ documentation ∷ anywhere field.LIFETIME First (at_most_one (LIFETIME ∷ [])) ∷ []
 
--- attrs doc_comments lifetime expr
-abbrev pub break_expr_fields : List Field
-break_expr_fields = attrs ∷ doc_comments ∷ at_most_one (LIFETIME ∷ []) ∷ at_most_one expressions ∷ []
+abbrev pub break_expr_fields : List FieldRow
+break_expr_fields =
+    attributes ∷ documentation ∷ anywhere field.LIFETIME First (at_most_one (LIFETIME ∷ [])) ∷
+    anywhere field.EXPR First (at_most_one expressions) ∷ []
 
--- attrs doc_comments ty fields
-abbrev pub offset_of_expr_fields : List Field
-offset_of_expr_fields = attrs ∷ doc_comments ∷ exactly_one types ∷ any_number (NAME_REF ∷ []) ∷ []
+abbrev pub offset_of_expr_fields : List FieldRow
+offset_of_expr_fields =
+    attributes ∷ documentation ∷ anywhere field.TY First (exactly_one types) ∷
+    anywhere field.FIELDS All (any_number (NAME_REF ∷ [])) ∷ []
 
--- attrs doc_comments template args
-abbrev pub format_args_expr_fields : List Field
-format_args_expr_fields = attrs ∷ doc_comments ∷ exactly_one expressions ∷ any_number (FORMAT_ARGS_ARG ∷ []) ∷ []
+abbrev pub format_args_expr_fields : List FieldRow
+format_args_expr_fields =
+    attributes ∷ documentation ∷ anywhere field.TEMPLATE First (exactly_one expressions) ∷
+    anywhere field.ARGS All (any_number (FORMAT_ARGS_ARG ∷ [])) ∷ []
 
--- name expr
-abbrev pub format_args_arg_fields : List Field
-format_args_arg_fields = at_most_one (NAME ∷ []) ∷ exactly_one expressions ∷ []
+abbrev pub format_args_arg_fields : List FieldRow
+format_args_arg_fields =
+    anywhere field.NAME First (at_most_one (NAME ∷ [])) ∷ anywhere field.EXPR First (exactly_one expressions) ∷ []
 
--- attrs doc_comments
-abbrev pub include_bytes_expr_fields : List Field
-include_bytes_expr_fields = attrs ∷ doc_comments ∷ []
+abbrev pub include_bytes_expr_fields : List FieldRow
+include_bytes_expr_fields = attributes ∷ documentation ∷ []
 
--- attrs doc_comments cfg_predicate
-abbrev pub cfg_pred_expr_fields : List Field
-cfg_pred_expr_fields = attrs ∷ doc_comments ∷ exactly_one (CFG_ATOM ∷ CFG_COMPOSITE ∷ []) ∷ []
+abbrev pub cfg_pred_expr_fields : List FieldRow
+cfg_pred_expr_fields =
+    attributes ∷ documentation ∷ anywhere field.CFG_PREDICATE First (exactly_one (CFG_ATOM ∷ CFG_COMPOSITE ∷ [])) ∷ []
 
--- attrs doc_comments visibility template asm_pieces
-abbrev pub asm_expr_fields : List Field
+abbrev pub asm_expr_fields : List FieldRow
 asm_expr_fields =
-    attrs ∷ doc_comments ∷ at_most_one (VISIBILITY ∷ []) ∷ at_least_one expressions ∷
-    any_number (ASM_CLOBBER_ABI ∷ ASM_OPTIONS ∷ ASM_OPERAND_NAMED ∷ []) ∷ []
+    attributes ∷ documentation ∷ anywhere field.VISIBILITY First (at_most_one (VISIBILITY ∷ [])) ∷
+    anywhere field.TEMPLATE All (at_least_one expressions) ∷
+    anywhere field.ASM_PIECES All (any_number (ASM_CLOBBER_ABI ∷ ASM_OPTIONS ∷ ASM_OPERAND_NAMED ∷ [])) ∷ []
 
--- attrs doc_comments
-abbrev pub asm_clobber_abi_fields : List Field
-asm_clobber_abi_fields = attrs ∷ doc_comments ∷ []
+abbrev pub asm_clobber_abi_fields : List FieldRow
+asm_clobber_abi_fields = attributes ∷ documentation ∷ []
 
--- attrs doc_comments asm_options
-abbrev pub asm_options_fields : List Field
-asm_options_fields = attrs ∷ doc_comments ∷ any_number (ASM_OPTION ∷ []) ∷ []
+abbrev pub asm_options_fields : List FieldRow
+asm_options_fields = attributes ∷ documentation ∷ anywhere field.ASM_OPTIONS All (any_number (ASM_OPTION ∷ [])) ∷ []
 
--- asm_dir_spec asm_reg_spec asm_operand_expr
-abbrev pub asm_reg_operand_fields : List Field
+abbrev pub asm_reg_operand_fields : List FieldRow
 asm_reg_operand_fields =
-    exactly_one (ASM_DIR_SPEC ∷ []) ∷ exactly_one (ASM_REG_SPEC ∷ []) ∷ exactly_one (ASM_OPERAND_EXPR ∷ []) ∷ []
+    anywhere field.ASM_DIR_SPEC First (exactly_one (ASM_DIR_SPEC ∷ [])) ∷
+    anywhere field.ASM_REG_SPEC First (exactly_one (ASM_REG_SPEC ∷ [])) ∷
+    anywhere field.ASM_OPERAND_EXPR First (exactly_one (ASM_OPERAND_EXPR ∷ [])) ∷ []
 
--- attrs doc_comments name asm_operand
-abbrev pub asm_operand_named_fields : List Field
+abbrev pub asm_operand_named_fields : List FieldRow
 asm_operand_named_fields =
-    attrs ∷ doc_comments ∷ at_most_one (NAME ∷ []) ∷
-    exactly_one (ASM_REG_OPERAND ∷ ASM_LABEL ∷ ASM_CONST ∷ ASM_SYM ∷ []) ∷ []
+    attributes ∷ documentation ∷ anywhere field.NAME First (at_most_one (NAME ∷ [])) ∷
+    anywhere field.ASM_OPERAND First (exactly_one (ASM_REG_OPERAND ∷ ASM_LABEL ∷ ASM_CONST ∷ ASM_SYM ∷ [])) ∷ []
 
--- block_expr
-abbrev pub asm_label_fields : List Field
-asm_label_fields = exactly_one (BLOCK_EXPR ∷ []) ∷ []
+abbrev pub asm_label_fields : List FieldRow
+asm_label_fields = anywhere field.BLOCK_EXPR First (exactly_one (BLOCK_EXPR ∷ [])) ∷ []
 
--- expr
-abbrev pub asm_const_fields : List Field
-asm_const_fields = exactly_one expressions ∷ []
+abbrev pub asm_const_fields : List FieldRow
+asm_const_fields = anywhere field.EXPR First (exactly_one expressions) ∷ []
 
--- path
-abbrev pub asm_sym_fields : List Field
-asm_sym_fields = exactly_one (PATH ∷ []) ∷ []
+abbrev pub asm_sym_fields : List FieldRow
+asm_sym_fields = anywhere field.PATH First (exactly_one (PATH ∷ [])) ∷ []
 
--- name_ref
-abbrev pub asm_reg_spec_fields : List Field
-asm_reg_spec_fields = at_most_one (NAME_REF ∷ []) ∷ []
+abbrev pub asm_reg_spec_fields : List FieldRow
+asm_reg_spec_fields = anywhere field.NAME_REF First (at_most_one (NAME_REF ∷ [])) ∷ []
 
--- attrs doc_comments visibility name item_list
-abbrev pub module_fields : List Field
+abbrev pub module_fields : List FieldRow
 module_fields =
-    attrs ∷ doc_comments ∷ at_most_one (VISIBILITY ∷ []) ∷ exactly_one (NAME ∷ []) ∷ at_most_one (ITEM_LIST ∷ []) ∷ []
+    attributes ∷ documentation ∷ anywhere field.VISIBILITY First (at_most_one (VISIBILITY ∷ [])) ∷
+    anywhere field.NAME First (exactly_one (NAME ∷ [])) ∷
+    anywhere field.ITEM_LIST First (at_most_one (ITEM_LIST ∷ [])) ∷ []
 
--- attrs doc_comments items
-abbrev pub item_list_fields : List Field
-item_list_fields = attrs ∷ doc_comments ∷ any_number items ∷ []
+abbrev pub item_list_fields : List FieldRow
+item_list_fields = attributes ∷ documentation ∷ anywhere field.ITEMS All (any_number items) ∷ []
 
--- attrs doc_comments visibility name_ref rename
-abbrev pub extern_crate_fields : List Field
+abbrev pub extern_crate_fields : List FieldRow
 extern_crate_fields =
-    attrs ∷ doc_comments ∷ at_most_one (VISIBILITY ∷ []) ∷ exactly_one (NAME_REF ∷ []) ∷ at_most_one (RENAME ∷ []) ∷ []
+    attributes ∷ documentation ∷ anywhere field.VISIBILITY First (at_most_one (VISIBILITY ∷ [])) ∷
+    anywhere field.NAME_REF First (exactly_one (NAME_REF ∷ [])) ∷
+    anywhere field.RENAME First (at_most_one (RENAME ∷ [])) ∷ []
 
--- attrs doc_comments visibility impl_restriction abi extern_item_list
-abbrev pub extern_block_fields : List Field
+abbrev pub extern_block_fields : List FieldRow
 extern_block_fields =
-    attrs ∷ doc_comments ∷ at_most_one (VISIBILITY ∷ []) ∷ at_most_one (IMPL_RESTRICTION ∷ []) ∷
-    exactly_one (ABI ∷ []) ∷ exactly_one (EXTERN_ITEM_LIST ∷ []) ∷ []
+    attributes ∷ documentation ∷ anywhere field.VISIBILITY First (at_most_one (VISIBILITY ∷ [])) ∷
+    anywhere field.IMPL_RESTRICTION First (at_most_one (IMPL_RESTRICTION ∷ [])) ∷
+    anywhere field.ABI First (exactly_one (ABI ∷ [])) ∷
+    anywhere field.EXTERN_ITEM_LIST First (exactly_one (EXTERN_ITEM_LIST ∷ [])) ∷ []
 
--- attrs doc_comments extern_items
-abbrev pub extern_item_list_fields : List Field
-extern_item_list_fields = attrs ∷ doc_comments ∷ any_number (MACRO_CALL ∷ TYPE_ALIAS ∷ FN ∷ STATIC ∷ []) ∷ []
+abbrev pub extern_item_list_fields : List FieldRow
+extern_item_list_fields =
+    attributes ∷ documentation ∷
+    anywhere field.EXTERN_ITEMS All (any_number (MACRO_CALL ∷ TYPE_ALIAS ∷ FN ∷ STATIC ∷ [])) ∷ []
 
--- visibility_inner
-abbrev pub impl_restriction_fields : List Field
-impl_restriction_fields = exactly_one (VISIBILITY_INNER ∷ []) ∷ []
+abbrev pub impl_restriction_fields : List FieldRow
+impl_restriction_fields = anywhere field.VISIBILITY_INNER First (exactly_one (VISIBILITY_INNER ∷ [])) ∷ []
 
--- visibility_inner
-abbrev pub mut_restriction_fields : List Field
-mut_restriction_fields = exactly_one (VISIBILITY_INNER ∷ []) ∷ []
+abbrev pub mut_restriction_fields : List FieldRow
+mut_restriction_fields = anywhere field.VISIBILITY_INNER First (exactly_one (VISIBILITY_INNER ∷ [])) ∷ []
 
--- attrs doc_comments visibility impl_restriction abi name generic_param_list type_bound_list ty
-abbrev pub type_alias_fields : List Field
+abbrev pub type_alias_fields : List FieldRow
 type_alias_fields =
-    attrs ∷ doc_comments ∷ at_most_one (VISIBILITY ∷ []) ∷ at_most_one (IMPL_RESTRICTION ∷ []) ∷
-    at_most_one (ABI ∷ []) ∷ exactly_one (NAME ∷ []) ∷ at_most_one (GENERIC_PARAM_LIST ∷ []) ∷
-    at_most_one (TYPE_BOUND_LIST ∷ []) ∷ at_most_one types ∷ []
+    attributes ∷ documentation ∷ anywhere field.VISIBILITY First (at_most_one (VISIBILITY ∷ [])) ∷
+    anywhere field.IMPL_RESTRICTION First (at_most_one (IMPL_RESTRICTION ∷ [])) ∷
+    anywhere field.ABI First (at_most_one (ABI ∷ [])) ∷ anywhere field.NAME First (exactly_one (NAME ∷ [])) ∷
+    anywhere field.GENERIC_PARAM_LIST First (at_most_one (GENERIC_PARAM_LIST ∷ [])) ∷
+    anywhere field.TYPE_BOUND_LIST First (at_most_one (TYPE_BOUND_LIST ∷ [])) ∷
+    anywhere field.TY First (at_most_one types) ∷ []
 
--- attrs doc_comments visibility name token_tree
-abbrev pub macro_rules_fields : List Field
+abbrev pub macro_rules_fields : List FieldRow
 macro_rules_fields =
-    attrs ∷ doc_comments ∷ at_most_one (VISIBILITY ∷ []) ∷ exactly_one (NAME ∷ []) ∷ exactly_one (TOKEN_TREE ∷ []) ∷ []
+    attributes ∷ documentation ∷ anywhere field.VISIBILITY First (at_most_one (VISIBILITY ∷ [])) ∷
+    anywhere field.NAME First (exactly_one (NAME ∷ [])) ∷
+    anywhere field.TOKEN_TREE First (exactly_one (TOKEN_TREE ∷ [])) ∷ []
 
--- attrs doc_comments visibility name body
-abbrev pub macro_def_fields : List Field
+abbrev pub macro_def_fields : List FieldRow
 macro_def_fields =
-    attrs ∷ doc_comments ∷ at_most_one (VISIBILITY ∷ []) ∷ exactly_one (NAME ∷ []) ∷
-    between 1 (Some 2) (TOKEN_TREE ∷ []) ∷ []
+    attributes ∷ documentation ∷ anywhere field.VISIBILITY First (at_most_one (VISIBILITY ∷ [])) ∷
+    anywhere field.NAME First (exactly_one (NAME ∷ [])) ∷
+    anywhere field.BODY Last (between 1 (Some 2) (TOKEN_TREE ∷ [])) ∷ []
 
--- attrs doc_comments visibility impl_restriction abi name generic_param_list param_list ret_type where_clause body
-abbrev pub fn_fields : List Field
+abbrev pub fn_fields : List FieldRow
 fn_fields =
-    attrs ∷ doc_comments ∷ at_most_one (VISIBILITY ∷ []) ∷ at_most_one (IMPL_RESTRICTION ∷ []) ∷
-    at_most_one (ABI ∷ []) ∷ exactly_one (NAME ∷ []) ∷ at_most_one (GENERIC_PARAM_LIST ∷ []) ∷
-    exactly_one (PARAM_LIST ∷ []) ∷ at_most_one (RET_TYPE ∷ []) ∷ at_most_one (WHERE_CLAUSE ∷ []) ∷
-    at_most_one (BLOCK_EXPR ∷ []) ∷ []
+    attributes ∷ documentation ∷ anywhere field.VISIBILITY First (at_most_one (VISIBILITY ∷ [])) ∷
+    anywhere field.IMPL_RESTRICTION First (at_most_one (IMPL_RESTRICTION ∷ [])) ∷
+    anywhere field.ABI First (at_most_one (ABI ∷ [])) ∷ anywhere field.NAME First (exactly_one (NAME ∷ [])) ∷
+    anywhere field.GENERIC_PARAM_LIST First (at_most_one (GENERIC_PARAM_LIST ∷ [])) ∷
+    anywhere field.PARAM_LIST First (exactly_one (PARAM_LIST ∷ [])) ∷
+    anywhere field.RET_TYPE First (at_most_one (RET_TYPE ∷ [])) ∷
+    anywhere field.WHERE_CLAUSE First (at_most_one (WHERE_CLAUSE ∷ [])) ∷
+    anywhere field.BODY First (at_most_one (BLOCK_EXPR ∷ [])) ∷ []
 
--- token_trees
-abbrev pub token_tree_fields : List Field
-token_tree_fields = any_number (TOKEN_TREE ∷ []) ∷ []
+abbrev pub token_tree_fields : List FieldRow
+token_tree_fields = anywhere field.TOKEN_TREES All (any_number (TOKEN_TREE ∷ [])) ∷ []
 
--- attrs doc_comments visibility name generic_param_list where_clause field_list
-abbrev pub struct_fields : List Field
+abbrev pub struct_fields : List FieldRow
 struct_fields =
-    attrs ∷ doc_comments ∷ at_most_one (VISIBILITY ∷ []) ∷ exactly_one (NAME ∷ []) ∷
-    at_most_one (GENERIC_PARAM_LIST ∷ []) ∷ at_most_one (WHERE_CLAUSE ∷ []) ∷
-    at_most_one (RECORD_FIELD_LIST ∷ TUPLE_FIELD_LIST ∷ []) ∷ []
+    attributes ∷ documentation ∷ anywhere field.VISIBILITY First (at_most_one (VISIBILITY ∷ [])) ∷
+    anywhere field.NAME First (exactly_one (NAME ∷ [])) ∷
+    anywhere field.GENERIC_PARAM_LIST First (at_most_one (GENERIC_PARAM_LIST ∷ [])) ∷
+    anywhere field.WHERE_CLAUSE First (at_most_one (WHERE_CLAUSE ∷ [])) ∷
+    anywhere field.FIELD_LIST First (at_most_one (RECORD_FIELD_LIST ∷ TUPLE_FIELD_LIST ∷ [])) ∷ []
 
--- attrs doc_comments visibility name generic_param_list where_clause record_field_list
-abbrev pub union_fields : List Field
+abbrev pub union_fields : List FieldRow
 union_fields =
-    attrs ∷ doc_comments ∷ at_most_one (VISIBILITY ∷ []) ∷ exactly_one (NAME ∷ []) ∷
-    at_most_one (GENERIC_PARAM_LIST ∷ []) ∷ at_most_one (WHERE_CLAUSE ∷ []) ∷ at_most_one (RECORD_FIELD_LIST ∷ []) ∷ []
+    attributes ∷ documentation ∷ anywhere field.VISIBILITY First (at_most_one (VISIBILITY ∷ [])) ∷
+    anywhere field.NAME First (exactly_one (NAME ∷ [])) ∷
+    anywhere field.GENERIC_PARAM_LIST First (at_most_one (GENERIC_PARAM_LIST ∷ [])) ∷
+    anywhere field.WHERE_CLAUSE First (at_most_one (WHERE_CLAUSE ∷ [])) ∷
+    anywhere field.RECORD_FIELD_LIST First (at_most_one (RECORD_FIELD_LIST ∷ [])) ∷ []
 
--- attrs doc_comments visibility name generic_param_list where_clause variant_list
-abbrev pub enum_fields : List Field
+abbrev pub enum_fields : List FieldRow
 enum_fields =
-    attrs ∷ doc_comments ∷ at_most_one (VISIBILITY ∷ []) ∷ exactly_one (NAME ∷ []) ∷
-    at_most_one (GENERIC_PARAM_LIST ∷ []) ∷ at_most_one (WHERE_CLAUSE ∷ []) ∷ exactly_one (VARIANT_LIST ∷ []) ∷ []
+    attributes ∷ documentation ∷ anywhere field.VISIBILITY First (at_most_one (VISIBILITY ∷ [])) ∷
+    anywhere field.NAME First (exactly_one (NAME ∷ [])) ∷
+    anywhere field.GENERIC_PARAM_LIST First (at_most_one (GENERIC_PARAM_LIST ∷ [])) ∷
+    anywhere field.WHERE_CLAUSE First (at_most_one (WHERE_CLAUSE ∷ [])) ∷
+    anywhere field.VARIANT_LIST First (exactly_one (VARIANT_LIST ∷ [])) ∷ []
 
--- variants
-abbrev pub variant_list_fields : List Field
-variant_list_fields = any_number (VARIANT ∷ []) ∷ []
+abbrev pub variant_list_fields : List FieldRow
+variant_list_fields = anywhere field.VARIANTS All (any_number (VARIANT ∷ [])) ∷ []
 
--- attrs doc_comments name field_list const_arg
-abbrev pub variant_fields : List Field
+abbrev pub variant_fields : List FieldRow
 variant_fields =
-    attrs ∷ doc_comments ∷ at_most_one (NAME ∷ []) ∷ at_most_one (RECORD_FIELD_LIST ∷ TUPLE_FIELD_LIST ∷ []) ∷
-    at_most_one (CONST_ARG ∷ []) ∷ []
+    attributes ∷ documentation ∷ anywhere field.NAME First (at_most_one (NAME ∷ [])) ∷
+    anywhere field.FIELD_LIST First (at_most_one (RECORD_FIELD_LIST ∷ TUPLE_FIELD_LIST ∷ [])) ∷
+    anywhere field.CONST_ARG First (at_most_one (CONST_ARG ∷ [])) ∷ []
 
--- fields
-abbrev pub record_field_list_fields : List Field
-record_field_list_fields = any_number (RECORD_FIELD ∷ []) ∷ []
+abbrev pub record_field_list_fields : List FieldRow
+record_field_list_fields = anywhere field.FIELDS All (any_number (RECORD_FIELD ∷ [])) ∷ []
 
--- attrs doc_comments visibility mut_restriction name ty default_val
-abbrev pub record_field_fields : List Field
+abbrev pub record_field_fields : List FieldRow
 record_field_fields =
-    attrs ∷ doc_comments ∷ at_most_one (VISIBILITY ∷ []) ∷ between 0 (Some 2) (MUT_RESTRICTION ∷ []) ∷
-    exactly_one (NAME ∷ []) ∷ exactly_one types ∷ at_most_one (CONST_ARG ∷ []) ∷ []
+    attributes ∷ documentation ∷ anywhere field.VISIBILITY First (at_most_one (VISIBILITY ∷ [])) ∷
+    anywhere field.MUT_RESTRICTION First (between 0 (Some 2) (MUT_RESTRICTION ∷ [])) ∷
+    anywhere field.NAME First (exactly_one (NAME ∷ [])) ∷ anywhere field.TY First (exactly_one types) ∷
+    anywhere field.DEFAULT_VAL First (at_most_one (CONST_ARG ∷ [])) ∷ []
 
--- fields
-abbrev pub tuple_field_list_fields : List Field
-tuple_field_list_fields = any_number (TUPLE_FIELD ∷ []) ∷ []
+abbrev pub tuple_field_list_fields : List FieldRow
+tuple_field_list_fields = anywhere field.FIELDS All (any_number (TUPLE_FIELD ∷ [])) ∷ []
 
--- attrs doc_comments visibility mut_restriction ty
-abbrev pub tuple_field_fields : List Field
+abbrev pub tuple_field_fields : List FieldRow
 tuple_field_fields =
-    attrs ∷ doc_comments ∷ at_most_one (VISIBILITY ∷ []) ∷ at_most_one (MUT_RESTRICTION ∷ []) ∷ exactly_one types ∷ []
+    attributes ∷ documentation ∷ anywhere field.VISIBILITY First (at_most_one (VISIBILITY ∷ [])) ∷
+    anywhere field.MUT_RESTRICTION First (at_most_one (MUT_RESTRICTION ∷ [])) ∷
+    anywhere field.TY First (exactly_one types) ∷ []
 
--- attrs doc_comments visibility impl_restriction abi name generic_param_list ty body where_clause
-abbrev pub const_fields : List Field
+abbrev pub const_fields : List FieldRow
 const_fields =
-    attrs ∷ doc_comments ∷ at_most_one (VISIBILITY ∷ []) ∷ at_most_one (IMPL_RESTRICTION ∷ []) ∷
-    at_most_one (ABI ∷ []) ∷ at_most_one (NAME ∷ []) ∷ at_most_one (GENERIC_PARAM_LIST ∷ []) ∷ exactly_one types ∷
-    at_most_one expressions ∷ at_most_one (WHERE_CLAUSE ∷ []) ∷ []
+    attributes ∷ documentation ∷ anywhere field.VISIBILITY First (at_most_one (VISIBILITY ∷ [])) ∷
+    anywhere field.IMPL_RESTRICTION First (at_most_one (IMPL_RESTRICTION ∷ [])) ∷
+    anywhere field.ABI First (at_most_one (ABI ∷ [])) ∷ anywhere field.NAME First (at_most_one (NAME ∷ [])) ∷
+    anywhere field.GENERIC_PARAM_LIST First (at_most_one (GENERIC_PARAM_LIST ∷ [])) ∷
+    anywhere field.TY First (exactly_one types) ∷ anywhere field.BODY First (at_most_one expressions) ∷
+    anywhere field.WHERE_CLAUSE First (at_most_one (WHERE_CLAUSE ∷ [])) ∷ []
 
--- attrs doc_comments visibility impl_restriction abi name generic_param_list ty body
-abbrev pub static_fields : List Field
+abbrev pub static_fields : List FieldRow
 static_fields =
-    attrs ∷ doc_comments ∷ at_most_one (VISIBILITY ∷ []) ∷ at_most_one (IMPL_RESTRICTION ∷ []) ∷
-    at_most_one (ABI ∷ []) ∷ exactly_one (NAME ∷ []) ∷ at_most_one (GENERIC_PARAM_LIST ∷ []) ∷ exactly_one types ∷
-    at_most_one expressions ∷ []
+    attributes ∷ documentation ∷ anywhere field.VISIBILITY First (at_most_one (VISIBILITY ∷ [])) ∷
+    anywhere field.IMPL_RESTRICTION First (at_most_one (IMPL_RESTRICTION ∷ [])) ∷
+    anywhere field.ABI First (at_most_one (ABI ∷ [])) ∷ anywhere field.NAME First (exactly_one (NAME ∷ [])) ∷
+    anywhere field.GENERIC_PARAM_LIST First (at_most_one (GENERIC_PARAM_LIST ∷ [])) ∷
+    anywhere field.TY First (exactly_one types) ∷ anywhere field.BODY First (at_most_one expressions) ∷ []
 
--- attrs doc_comments visibility impl_restriction abi name generic_param_list type_bound_list where_clause assoc_item_list
-abbrev pub trait_fields : List Field
+abbrev pub trait_fields : List FieldRow
 trait_fields =
-    attrs ∷ doc_comments ∷ at_most_one (VISIBILITY ∷ []) ∷ at_most_one (IMPL_RESTRICTION ∷ []) ∷
-    at_most_one (ABI ∷ []) ∷ exactly_one (NAME ∷ []) ∷ at_most_one (GENERIC_PARAM_LIST ∷ []) ∷
-    at_most_one (TYPE_BOUND_LIST ∷ []) ∷ at_most_one (WHERE_CLAUSE ∷ []) ∷ at_most_one (ASSOC_ITEM_LIST ∷ []) ∷ []
+    attributes ∷ documentation ∷ anywhere field.VISIBILITY First (at_most_one (VISIBILITY ∷ [])) ∷
+    anywhere field.IMPL_RESTRICTION First (at_most_one (IMPL_RESTRICTION ∷ [])) ∷
+    anywhere field.ABI First (at_most_one (ABI ∷ [])) ∷ anywhere field.NAME First (exactly_one (NAME ∷ [])) ∷
+    anywhere field.GENERIC_PARAM_LIST First (at_most_one (GENERIC_PARAM_LIST ∷ [])) ∷
+    anywhere field.TYPE_BOUND_LIST First (at_most_one (TYPE_BOUND_LIST ∷ [])) ∷
+    anywhere field.WHERE_CLAUSE First (at_most_one (WHERE_CLAUSE ∷ [])) ∷
+    anywhere field.ASSOC_ITEM_LIST First (at_most_one (ASSOC_ITEM_LIST ∷ [])) ∷ []
 
--- attrs doc_comments visibility impl_restriction abi generic_param_list where_clause assoc_item_list
-abbrev pub impl_fields : List Field
+abbrev pub impl_fields : List FieldRow
 impl_fields =
-    attrs ∷ doc_comments ∷ at_most_one (VISIBILITY ∷ []) ∷ at_most_one (IMPL_RESTRICTION ∷ []) ∷
-    at_most_one (ABI ∷ []) ∷ at_most_one (GENERIC_PARAM_LIST ∷ []) ∷ at_most_one (WHERE_CLAUSE ∷ []) ∷
-    exactly_one (ASSOC_ITEM_LIST ∷ []) ∷ []
+    attributes ∷ documentation ∷ anywhere field.VISIBILITY First (at_most_one (VISIBILITY ∷ [])) ∷
+    anywhere field.IMPL_RESTRICTION First (at_most_one (IMPL_RESTRICTION ∷ [])) ∷
+    anywhere field.ABI First (at_most_one (ABI ∷ [])) ∷
+    anywhere field.GENERIC_PARAM_LIST First (at_most_one (GENERIC_PARAM_LIST ∷ [])) ∷
+    anywhere field.WHERE_CLAUSE First (at_most_one (WHERE_CLAUSE ∷ [])) ∷
+    anywhere field.ASSOC_ITEM_LIST First (exactly_one (ASSOC_ITEM_LIST ∷ [])) ∷ []
 
--- attrs doc_comments assoc_items
-abbrev pub assoc_item_list_fields : List Field
-assoc_item_list_fields = attrs ∷ doc_comments ∷ any_number (MACRO_CALL ∷ TYPE_ALIAS ∷ FN ∷ CONST ∷ []) ∷ []
+abbrev pub assoc_item_list_fields : List FieldRow
+assoc_item_list_fields =
+    attributes ∷ documentation ∷
+    anywhere field.ASSOC_ITEMS All (any_number (MACRO_CALL ∷ TYPE_ALIAS ∷ FN ∷ CONST ∷ [])) ∷ []
 
--- attrs doc_comments visibility use_tree
-abbrev pub use_fields : List Field
-use_fields = attrs ∷ doc_comments ∷ at_most_one (VISIBILITY ∷ []) ∷ exactly_one (USE_TREE ∷ []) ∷ []
+abbrev pub use_fields : List FieldRow
+use_fields =
+    attributes ∷ documentation ∷ anywhere field.VISIBILITY First (at_most_one (VISIBILITY ∷ [])) ∷
+    anywhere field.USE_TREE First (exactly_one (USE_TREE ∷ [])) ∷ []
 
--- path use_tree_list rename
-abbrev pub use_tree_fields : List Field
-use_tree_fields = at_most_one (PATH ∷ []) ∷ at_most_one (USE_TREE_LIST ∷ []) ∷ at_most_one (RENAME ∷ []) ∷ []
+abbrev pub use_tree_fields : List FieldRow
+use_tree_fields =
+    anywhere field.PATH First (at_most_one (PATH ∷ [])) ∷
+    anywhere field.USE_TREE_LIST First (at_most_one (USE_TREE_LIST ∷ [])) ∷
+    anywhere field.RENAME First (at_most_one (RENAME ∷ [])) ∷ []
 
--- use_trees
-abbrev pub use_tree_list_fields : List Field
-use_tree_list_fields = any_number (USE_TREE ∷ []) ∷ []
+abbrev pub use_tree_list_fields : List FieldRow
+use_tree_list_fields = anywhere field.USE_TREES All (any_number (USE_TREE ∷ [])) ∷ []
 
--- attrs doc_comments self_param params
-abbrev pub param_list_fields : List Field
-param_list_fields = attrs ∷ doc_comments ∷ at_most_one (SELF_PARAM ∷ []) ∷ any_number (PARAM ∷ []) ∷ []
+abbrev pub param_list_fields : List FieldRow
+param_list_fields =
+    attributes ∷ documentation ∷ anywhere field.SELF_PARAM First (at_most_one (SELF_PARAM ∷ [])) ∷
+    anywhere field.PARAMS All (any_number (PARAM ∷ [])) ∷ []
 
--- attrs doc_comments pat ty
-abbrev pub param_fields : List Field
-param_fields = attrs ∷ doc_comments ∷ at_most_one patterns ∷ at_most_one types ∷ []
+abbrev pub param_fields : List FieldRow
+param_fields =
+    attributes ∷ documentation ∷ anywhere field.PAT First (at_most_one patterns) ∷
+    anywhere field.TY First (at_most_one types) ∷ []
 
--- attrs doc_comments lifetime name ty
-abbrev pub self_param_fields : List Field
+abbrev pub self_param_fields : List FieldRow
 self_param_fields =
-    attrs ∷ doc_comments ∷ at_most_one (LIFETIME ∷ []) ∷ exactly_one (NAME ∷ []) ∷ at_most_one types ∷ []
+    attributes ∷ documentation ∷ anywhere field.LIFETIME First (at_most_one (LIFETIME ∷ [])) ∷
+    anywhere field.NAME First (exactly_one (NAME ∷ [])) ∷ anywhere field.TY First (at_most_one types) ∷ []
 
--- pats
-abbrev pub or_pat_fields : List Field
-or_pat_fields = at_least_one patterns ∷ []
+abbrev pub or_pat_fields : List FieldRow
+or_pat_fields = anywhere field.PATS All (at_least_one patterns) ∷ []
 
--- attrs doc_comments
-abbrev pub rest_pat_fields : List Field
-rest_pat_fields = attrs ∷ doc_comments ∷ []
+abbrev pub rest_pat_fields : List FieldRow
+rest_pat_fields = attributes ∷ documentation ∷ []
 
--- pat
-abbrev pub deref_pat_fields : List Field
-deref_pat_fields = exactly_one patterns ∷ []
+abbrev pub deref_pat_fields : List FieldRow
+deref_pat_fields = anywhere field.PAT First (exactly_one patterns) ∷ []
 
--- cfg_predicate
-abbrev pub cfg_pred_pat_fields : List Field
-cfg_pred_pat_fields = exactly_one (CFG_ATOM ∷ CFG_COMPOSITE ∷ []) ∷ []
+abbrev pub cfg_pred_pat_fields : List FieldRow
+cfg_pred_pat_fields = anywhere field.CFG_PREDICATE First (exactly_one (CFG_ATOM ∷ CFG_COMPOSITE ∷ [])) ∷ []
 
--- literal
-abbrev pub literal_pat_fields : List Field
-literal_pat_fields = exactly_one (LITERAL ∷ []) ∷ []
+abbrev pub literal_pat_fields : List FieldRow
+literal_pat_fields = anywhere field.LITERAL First (exactly_one (LITERAL ∷ [])) ∷ []
 
--- path fields
-abbrev pub tuple_struct_pat_fields : List Field
-tuple_struct_pat_fields = exactly_one (PATH ∷ []) ∷ any_number patterns ∷ []
+abbrev pub tuple_struct_pat_fields : List FieldRow
+tuple_struct_pat_fields =
+    anywhere field.PATH First (exactly_one (PATH ∷ [])) ∷ anywhere field.FIELDS All (any_number patterns) ∷ []
 
--- path record_pat_field_list
-abbrev pub record_pat_fields : List Field
-record_pat_fields = exactly_one (PATH ∷ []) ∷ exactly_one (RECORD_PAT_FIELD_LIST ∷ []) ∷ []
+abbrev pub record_pat_fields : List FieldRow
+record_pat_fields =
+    anywhere field.PATH First (exactly_one (PATH ∷ [])) ∷
+    anywhere field.RECORD_PAT_FIELD_LIST First (exactly_one (RECORD_PAT_FIELD_LIST ∷ [])) ∷ []
 
--- fields rest_pat
-abbrev pub record_pat_field_list_fields : List Field
-record_pat_field_list_fields = any_number (RECORD_PAT_FIELD ∷ []) ∷ any_number (REST_PAT ∷ []) ∷ []
+abbrev pub record_pat_field_list_fields : List FieldRow
+record_pat_field_list_fields =
+    anywhere field.FIELDS All (any_number (RECORD_PAT_FIELD ∷ [])) ∷
+    anywhere field.REST_PAT First (any_number (REST_PAT ∷ [])) ∷ []
 
--- attrs doc_comments name_ref pat
-abbrev pub record_pat_field_fields : List Field
-record_pat_field_fields = attrs ∷ doc_comments ∷ at_most_one (NAME_REF ∷ []) ∷ exactly_one patterns ∷ []
+abbrev pub record_pat_field_fields : List FieldRow
+record_pat_field_fields =
+    attributes ∷ documentation ∷ anywhere field.NAME_REF First (at_most_one (NAME_REF ∷ [])) ∷
+    anywhere field.PAT First (exactly_one patterns) ∷ []
 
--- macro_call
-abbrev pub macro_pat_fields : List Field
-macro_pat_fields = exactly_one (MACRO_CALL ∷ []) ∷ []
+abbrev pub macro_pat_fields : List FieldRow
+macro_pat_fields = anywhere field.MACRO_CALL First (exactly_one (MACRO_CALL ∷ [])) ∷ []
 
--- path
-abbrev pub path_pat_fields : List Field
-path_pat_fields = exactly_one (PATH ∷ []) ∷ []
+abbrev pub path_pat_fields : List FieldRow
+path_pat_fields = anywhere field.PATH First (exactly_one (PATH ∷ [])) ∷ []
 
--- pat
-abbrev pub ref_pat_fields : List Field
-ref_pat_fields = exactly_one patterns ∷ []
+abbrev pub ref_pat_fields : List FieldRow
+ref_pat_fields = anywhere field.PAT First (exactly_one patterns) ∷ []
 
--- pat
-abbrev pub not_null_fields : List Field
-not_null_fields = exactly_one patterns ∷ []
+abbrev pub not_null_fields : List FieldRow
+not_null_fields = anywhere field.PAT First (exactly_one patterns) ∷ []
 
--- pat
-abbrev pub paren_pat_fields : List Field
-paren_pat_fields = exactly_one patterns ∷ []
+abbrev pub paren_pat_fields : List FieldRow
+paren_pat_fields = anywhere field.PAT First (exactly_one patterns) ∷ []
 
--- fields
-abbrev pub tuple_pat_fields : List Field
-tuple_pat_fields = any_number patterns ∷ []
+abbrev pub tuple_pat_fields : List FieldRow
+tuple_pat_fields = anywhere field.FIELDS All (any_number patterns) ∷ []
 
--- pats
-abbrev pub slice_pat_fields : List Field
-slice_pat_fields = any_number patterns ∷ []
+abbrev pub slice_pat_fields : List FieldRow
+slice_pat_fields = anywhere field.PATS All (any_number patterns) ∷ []
 
--- name pat
-abbrev pub ident_pat_fields : List Field
-ident_pat_fields = exactly_one (NAME ∷ []) ∷ at_most_one patterns ∷ []
+abbrev pub ident_pat_fields : List FieldRow
+ident_pat_fields =
+    anywhere field.NAME First (exactly_one (NAME ∷ [])) ∷ anywhere field.PAT First (at_most_one patterns) ∷ []
 
--- pat
-abbrev pub box_pat_fields : List Field
-box_pat_fields = exactly_one patterns ∷ []
+abbrev pub box_pat_fields : List FieldRow
+box_pat_fields = anywhere field.PAT First (exactly_one patterns) ∷ []
 
--- block_expr
-abbrev pub const_block_pat_fields : List Field
-const_block_pat_fields = exactly_one (BLOCK_EXPR ∷ []) ∷ []
+abbrev pub const_block_pat_fields : List FieldRow
+const_block_pat_fields = anywhere field.BLOCK_EXPR First (exactly_one (BLOCK_EXPR ∷ [])) ∷ []
 
--- ty
-abbrev pub paren_type_fields : List Field
-paren_type_fields = exactly_one types ∷ []
+abbrev pub paren_type_fields : List FieldRow
+paren_type_fields = anywhere field.TY First (exactly_one types) ∷ []
 
--- fields
-abbrev pub tuple_type_fields : List Field
-tuple_type_fields = any_number types ∷ []
+abbrev pub tuple_type_fields : List FieldRow
+tuple_type_fields = anywhere field.FIELDS All (any_number types) ∷ []
 
--- ty
-abbrev pub ptr_type_fields : List Field
-ptr_type_fields = exactly_one types ∷ []
+abbrev pub ptr_type_fields : List FieldRow
+ptr_type_fields = anywhere field.TY First (exactly_one types) ∷ []
 
--- ty
-abbrev pub slice_type_fields : List Field
-slice_type_fields = exactly_one types ∷ []
+abbrev pub slice_type_fields : List FieldRow
+slice_type_fields = anywhere field.TY First (exactly_one types) ∷ []
 
--- ty const_arg
-abbrev pub array_type_fields : List Field
-array_type_fields = exactly_one types ∷ exactly_one (CONST_ARG ∷ []) ∷ []
+abbrev pub array_type_fields : List FieldRow
+array_type_fields =
+    anywhere field.TY First (exactly_one types) ∷ anywhere field.CONST_ARG First (exactly_one (CONST_ARG ∷ [])) ∷ []
 
--- lifetime ty
-abbrev pub ref_type_fields : List Field
-ref_type_fields = at_most_one (LIFETIME ∷ []) ∷ exactly_one types ∷ []
+abbrev pub ref_type_fields : List FieldRow
+ref_type_fields =
+    anywhere field.LIFETIME First (at_most_one (LIFETIME ∷ [])) ∷ anywhere field.TY First (exactly_one types) ∷ []
 
--- abi param_list ret_type
-abbrev pub fn_ptr_type_fields : List Field
-fn_ptr_type_fields = at_most_one (ABI ∷ []) ∷ exactly_one (PARAM_LIST ∷ []) ∷ at_most_one (RET_TYPE ∷ []) ∷ []
+abbrev pub fn_ptr_type_fields : List FieldRow
+fn_ptr_type_fields =
+    anywhere field.ABI First (at_most_one (ABI ∷ [])) ∷
+    anywhere field.PARAM_LIST First (exactly_one (PARAM_LIST ∷ [])) ∷
+    anywhere field.RET_TYPE First (at_most_one (RET_TYPE ∷ [])) ∷ []
 
--- generic_param_list
-abbrev pub for_binder_fields : List Field
-for_binder_fields = exactly_one (GENERIC_PARAM_LIST ∷ []) ∷ []
+abbrev pub for_binder_fields : List FieldRow
+for_binder_fields = anywhere field.GENERIC_PARAM_LIST First (exactly_one (GENERIC_PARAM_LIST ∷ [])) ∷ []
 
--- for_binder ty
-abbrev pub for_type_fields : List Field
-for_type_fields = exactly_one (FOR_BINDER ∷ []) ∷ exactly_one types ∷ []
+abbrev pub for_type_fields : List FieldRow
+for_type_fields =
+    anywhere field.FOR_BINDER First (exactly_one (FOR_BINDER ∷ [])) ∷ anywhere field.TY First (exactly_one types) ∷ []
 
--- type_bound_list
-abbrev pub impl_trait_type_fields : List Field
-impl_trait_type_fields = exactly_one (TYPE_BOUND_LIST ∷ []) ∷ []
+abbrev pub impl_trait_type_fields : List FieldRow
+impl_trait_type_fields = anywhere field.TYPE_BOUND_LIST First (exactly_one (TYPE_BOUND_LIST ∷ [])) ∷ []
 
--- type_bound_list
-abbrev pub dyn_trait_type_fields : List Field
-dyn_trait_type_fields = exactly_one (TYPE_BOUND_LIST ∷ []) ∷ []
+abbrev pub dyn_trait_type_fields : List FieldRow
+dyn_trait_type_fields = anywhere field.TYPE_BOUND_LIST First (exactly_one (TYPE_BOUND_LIST ∷ [])) ∷ []
 
--- macro_call
-abbrev pub macro_type_fields : List Field
-macro_type_fields = exactly_one (MACRO_CALL ∷ []) ∷ []
+abbrev pub macro_type_fields : List FieldRow
+macro_type_fields = anywhere field.MACRO_CALL First (exactly_one (MACRO_CALL ∷ [])) ∷ []
 
--- path
-abbrev pub path_type_fields : List Field
-path_type_fields = exactly_one (PATH ∷ []) ∷ []
+abbrev pub path_type_fields : List FieldRow
+path_type_fields = anywhere field.PATH First (exactly_one (PATH ∷ [])) ∷ []
 
--- ty pat
-abbrev pub pattern_type_fields : List Field
-pattern_type_fields = exactly_one types ∷ exactly_one patterns ∷ []
+abbrev pub pattern_type_fields : List FieldRow
+pattern_type_fields = anywhere field.TY First (exactly_one types) ∷ anywhere field.PAT First (exactly_one patterns) ∷ []
 
--- lifetime use_bound_generic_args for_binder ty
-abbrev pub type_bound_fields : List Field
+abbrev pub type_bound_fields : List FieldRow
 type_bound_fields =
-    at_most_one (LIFETIME ∷ []) ∷ at_most_one (USE_BOUND_GENERIC_ARGS ∷ []) ∷ at_most_one (FOR_BINDER ∷ []) ∷
-    at_most_one types ∷ []
+    anywhere field.LIFETIME First (at_most_one (LIFETIME ∷ [])) ∷
+    anywhere field.USE_BOUND_GENERIC_ARGS First (at_most_one (USE_BOUND_GENERIC_ARGS ∷ [])) ∷
+    anywhere field.FOR_BINDER First (at_most_one (FOR_BINDER ∷ [])) ∷ anywhere field.TY First (at_most_one types) ∷ []
 
--- bounds for_binder
-abbrev pub type_bound_list_fields : List Field
-type_bound_list_fields = any_number (TYPE_BOUND ∷ []) ∷ at_most_one (FOR_BINDER ∷ []) ∷ []
+abbrev pub type_bound_list_fields : List FieldRow
+type_bound_list_fields =
+    anywhere field.BOUNDS All (any_number (TYPE_BOUND ∷ [])) ∷
+    anywhere field.FOR_BINDER First (at_most_one (FOR_BINDER ∷ [])) ∷ []
 
--- generic_args
-abbrev pub generic_arg_list_fields : List Field
-generic_arg_list_fields = any_number generic_arguments ∷ []
+abbrev pub generic_arg_list_fields : List FieldRow
+generic_arg_list_fields = anywhere field.GENERIC_ARGS All (any_number generic_arguments) ∷ []
 
--- ty
-abbrev pub type_arg_fields : List Field
-type_arg_fields = exactly_one types ∷ []
+abbrev pub type_arg_fields : List FieldRow
+type_arg_fields = anywhere field.TY First (exactly_one types) ∷ []
 
--- lifetime
-abbrev pub lifetime_arg_fields : List Field
-lifetime_arg_fields = exactly_one (LIFETIME ∷ []) ∷ []
+abbrev pub lifetime_arg_fields : List FieldRow
+lifetime_arg_fields = anywhere field.LIFETIME First (exactly_one (LIFETIME ∷ [])) ∷ []
 
--- expr
-abbrev pub const_arg_fields : List Field
-const_arg_fields = exactly_one expressions ∷ []
+abbrev pub const_arg_fields : List FieldRow
+const_arg_fields = anywhere field.EXPR First (exactly_one expressions) ∷ []
 
--- name_ref generic_arg_list return_type_syntax parenthesized_arg_list ret_type type_bound_list ty const_arg
-abbrev pub assoc_type_arg_fields : List Field
+abbrev pub assoc_type_arg_fields : List FieldRow
 assoc_type_arg_fields =
-    exactly_one (NAME_REF ∷ []) ∷ at_most_one (GENERIC_ARG_LIST ∷ []) ∷ at_most_one (RETURN_TYPE_SYNTAX ∷ []) ∷
-    at_most_one (PARENTHESIZED_ARG_LIST ∷ []) ∷ at_most_one (RET_TYPE ∷ []) ∷ at_most_one (TYPE_BOUND_LIST ∷ []) ∷
-    at_most_one types ∷ at_most_one (CONST_ARG ∷ []) ∷ []
+    anywhere field.NAME_REF First (exactly_one (NAME_REF ∷ [])) ∷
+    anywhere field.GENERIC_ARG_LIST First (at_most_one (GENERIC_ARG_LIST ∷ [])) ∷
+    anywhere field.RETURN_TYPE_SYNTAX First (at_most_one (RETURN_TYPE_SYNTAX ∷ [])) ∷
+    anywhere field.PARENTHESIZED_ARG_LIST First (at_most_one (PARENTHESIZED_ARG_LIST ∷ [])) ∷
+    anywhere field.RET_TYPE First (at_most_one (RET_TYPE ∷ [])) ∷
+    anywhere field.TYPE_BOUND_LIST First (at_most_one (TYPE_BOUND_LIST ∷ [])) ∷
+    anywhere field.TY First (at_most_one types) ∷ anywhere field.CONST_ARG First (at_most_one (CONST_ARG ∷ [])) ∷ []
 
--- use_bound_generic_args
-abbrev pub use_bound_generic_args_fields : List Field
-use_bound_generic_args_fields = any_number (NAME_REF ∷ LIFETIME ∷ []) ∷ []
+abbrev pub use_bound_generic_args_fields : List FieldRow
+use_bound_generic_args_fields = anywhere field.USE_BOUND_GENERIC_ARGS All (any_number (NAME_REF ∷ LIFETIME ∷ [])) ∷ []
 
--- generic_params
-abbrev pub generic_param_list_fields : List Field
-generic_param_list_fields = any_number generic_parameters ∷ []
+abbrev pub generic_param_list_fields : List FieldRow
+generic_param_list_fields = anywhere field.GENERIC_PARAMS All (any_number generic_parameters) ∷ []
 
--- attrs doc_comments lifetime type_bound_list
-abbrev pub lifetime_param_fields : List Field
-lifetime_param_fields = attrs ∷ doc_comments ∷ exactly_one (LIFETIME ∷ []) ∷ at_most_one (TYPE_BOUND_LIST ∷ []) ∷ []
+abbrev pub lifetime_param_fields : List FieldRow
+lifetime_param_fields =
+    attributes ∷ documentation ∷ anywhere field.LIFETIME First (exactly_one (LIFETIME ∷ [])) ∷
+    anywhere field.TYPE_BOUND_LIST First (at_most_one (TYPE_BOUND_LIST ∷ [])) ∷ []
 
--- attrs doc_comments name type_bound_list default_type
-abbrev pub type_param_fields : List Field
+abbrev pub type_param_fields : List FieldRow
 type_param_fields =
-    attrs ∷ doc_comments ∷ exactly_one (NAME ∷ []) ∷ at_most_one (TYPE_BOUND_LIST ∷ []) ∷ at_most_one types ∷ []
+    attributes ∷ documentation ∷ anywhere field.NAME First (exactly_one (NAME ∷ [])) ∷
+    anywhere field.TYPE_BOUND_LIST First (at_most_one (TYPE_BOUND_LIST ∷ [])) ∷
+    anywhere field.DEFAULT_TYPE First (at_most_one types) ∷ []
 
--- attrs doc_comments name ty default_val
-abbrev pub const_param_fields : List Field
+abbrev pub const_param_fields : List FieldRow
 const_param_fields =
-    attrs ∷ doc_comments ∷ exactly_one (NAME ∷ []) ∷ exactly_one types ∷ at_most_one (CONST_ARG ∷ []) ∷ []
+    attributes ∷ documentation ∷ anywhere field.NAME First (exactly_one (NAME ∷ [])) ∷
+    anywhere field.TY First (exactly_one types) ∷ anywhere field.DEFAULT_VAL First (at_most_one (CONST_ARG ∷ [])) ∷ []
 
--- predicates
-abbrev pub where_clause_fields : List Field
-where_clause_fields = any_number (WHERE_PRED ∷ []) ∷ []
+abbrev pub where_clause_fields : List FieldRow
+where_clause_fields = anywhere field.PREDICATES All (any_number (WHERE_PRED ∷ [])) ∷ []
 
--- lifetime for_binder ty type_bound_list
-abbrev pub where_pred_fields : List Field
+abbrev pub where_pred_fields : List FieldRow
 where_pred_fields =
-    at_most_one (LIFETIME ∷ []) ∷ at_most_one (FOR_BINDER ∷ []) ∷ at_most_one types ∷
-    exactly_one (TYPE_BOUND_LIST ∷ []) ∷ []
+    anywhere field.LIFETIME First (at_most_one (LIFETIME ∷ [])) ∷
+    anywhere field.FOR_BINDER First (at_most_one (FOR_BINDER ∷ [])) ∷ anywhere field.TY First (at_most_one types) ∷
+    anywhere field.TYPE_BOUND_LIST First (exactly_one (TYPE_BOUND_LIST ∷ [])) ∷ []
 
--- meta
-abbrev pub attr_fields : List Field
-attr_fields = exactly_one metas ∷ []
+abbrev pub attr_fields : List FieldRow
+attr_fields = anywhere field.META First (exactly_one metas) ∷ []
 
--- meta
-abbrev pub unsafe_meta_fields : List Field
-unsafe_meta_fields = exactly_one metas ∷ []
+abbrev pub unsafe_meta_fields : List FieldRow
+unsafe_meta_fields = anywhere field.META First (exactly_one metas) ∷ []
 
--- cfg_predicate metas
-abbrev pub cfg_attr_meta_fields : List Field
-cfg_attr_meta_fields = exactly_one (CFG_ATOM ∷ CFG_COMPOSITE ∷ []) ∷ any_number metas ∷ []
+abbrev pub cfg_attr_meta_fields : List FieldRow
+cfg_attr_meta_fields =
+    anywhere field.CFG_PREDICATE First (exactly_one (CFG_ATOM ∷ CFG_COMPOSITE ∷ [])) ∷
+    anywhere field.METAS All (any_number metas) ∷ []
 
--- cfg_predicate
-abbrev pub cfg_meta_fields : List Field
-cfg_meta_fields = exactly_one (CFG_ATOM ∷ CFG_COMPOSITE ∷ []) ∷ []
+abbrev pub cfg_meta_fields : List FieldRow
+cfg_meta_fields = anywhere field.CFG_PREDICATE First (exactly_one (CFG_ATOM ∷ CFG_COMPOSITE ∷ [])) ∷ []
 
--- cfg_predicates
-abbrev pub cfg_composite_fields : List Field
-cfg_composite_fields = any_number (CFG_ATOM ∷ CFG_COMPOSITE ∷ []) ∷ []
+abbrev pub cfg_composite_fields : List FieldRow
+cfg_composite_fields = anywhere field.CFG_PREDICATES All (any_number (CFG_ATOM ∷ CFG_COMPOSITE ∷ [])) ∷ []
 
--- path expr
-abbrev pub key_value_meta_fields : List Field
-key_value_meta_fields = exactly_one (PATH ∷ []) ∷ exactly_one expressions ∷ []
+abbrev pub key_value_meta_fields : List FieldRow
+key_value_meta_fields =
+    anywhere field.PATH First (exactly_one (PATH ∷ [])) ∷ anywhere field.EXPR First (exactly_one expressions) ∷ []
 
--- path token_tree
-abbrev pub token_tree_meta_fields : List Field
-token_tree_meta_fields = exactly_one (PATH ∷ []) ∷ exactly_one (TOKEN_TREE ∷ []) ∷ []
+abbrev pub token_tree_meta_fields : List FieldRow
+token_tree_meta_fields =
+    anywhere field.PATH First (exactly_one (PATH ∷ [])) ∷
+    anywhere field.TOKEN_TREE First (exactly_one (TOKEN_TREE ∷ [])) ∷ []
 
--- path
-abbrev pub path_meta_fields : List Field
-path_meta_fields = exactly_one (PATH ∷ []) ∷ []
+abbrev pub path_meta_fields : List FieldRow
+path_meta_fields = anywhere field.PATH First (exactly_one (PATH ∷ [])) ∷ []
 
 -- of each kind
-abbrev pub fields : List (ℕ × List Field)
+abbrev pub fields : List (ℕ × List FieldRow)
 fields =
     (ERROR, error_fields) ∷ (SOURCE_FILE, source_file_fields) ∷ (MACRO_STMTS, macro_stmts_fields) ∷
     (MACRO_ITEMS, macro_items_fields) ∷ (VISIBILITY, visibility_fields) ∷ (VISIBILITY_INNER, visibility_inner_fields) ∷
