@@ -47,7 +47,7 @@ extern "C" {
  * compiled again; the second where something is added; and the third where neither is so.
  */
 #define RAP_VERSION_MAJOR 1
-#define RAP_VERSION_MINOR 1
+#define RAP_VERSION_MINOR 2
 #define RAP_VERSION_PATCH 0
 #define RAP_VERSION (1000000 * RAP_VERSION_MAJOR + 1000 * RAP_VERSION_MINOR + RAP_VERSION_PATCH)
 
@@ -55,7 +55,7 @@ extern "C" {
  *
  * A call that parses calls itself for each level of nesting in the text. A level takes at most 900 bytes of the stack
  * and has at least one token, so 1,024 bytes for each token, and 65,536 for what a call takes beside, suffice for every
- * text. Calls that parse are rap_tree, rap_tree_words, rap_nodes, rap_prefix, rap_prefix_nodes, rap_reparse,
+ * text. Calls that parse are rap_tree, rap_tree_words, rap_nodes, rap_core, rap_prefix, rap_prefix_nodes, rap_reparse,
  * rap_reparse_nodes, rap_parse, rap_parse_prefix and rap_parse_node. The other calls take the same few kilobytes for
  * each text.
  *
@@ -302,6 +302,48 @@ struct rap_nodes_answer rap_nodes(const uint8_t *text, size_t text_length, uint3
                                   struct rap_element *elements, size_t element_room,
                                   struct rap_message *messages, size_t message_room,
                                   uint8_t *message_bytes, size_t byte_room);
+
+/* A token or a node of a text.
+ * `kind`: the number of its kind.
+ * `is_token`: 1 for a token, and 0 for a node.
+ * `start`, `end`: the byte at which its first token begins, and the one after its last token; of a node the tokens that
+ *     are no trivia, and of a node without one the byte at which the next token begins, twice. A float behind a dot, as
+ *     `0.1` of `x.0.1`, is one token.
+ */
+struct rap_place {
+    uint32_t kind;
+    uint32_t is_token;
+    size_t start;
+    size_t end;
+};
+
+/* Whether a text is in the core grammar.
+ * `status`: one of enum rap_status. If it is not RAP_OK nothing was written, and the other numbers are 0.
+ * `derived`: 1 if a derivation was found and the lexer has no message, and else 0.
+ * `places`: the number of all places; as many as fit are in the caller's array. 0 if `derived` is 1.
+ * `used`: the text's length.
+ */
+struct rap_core_answer {
+    uint32_t status;
+    uint32_t derived;
+    size_t places;
+    size_t used;
+};
+
+/* Whether a text is in the core grammar as a file: docs/CORE.md of the repository says which texts are.
+ * If `derived` is 1, that grammar derives the text's tokens, rap_tree gives the tree of the derivation for
+ * RAP_SOURCE_FILE, and neither the parser nor the lexer has a message. If it is 0, no derivation was found, or the
+ * lexer has a message: the first is no proof that there is none.
+ * `text`, `text_length`, `edition`: as for rap_tree. No other entry is asked for.
+ * `places`, `place_room`: the caller's array and its length in places. As many places as fit are written, of what is
+ * outside. First they are those of the tokens that the lexer has a message of, each once, in the order of the text.
+ * Then, if no derivation was found, they are nodes of the tree, in the order of the text: those that the grammar does
+ * not derive, though it has such nodes, and that have no such node in them; where there is none, the whole file.
+ * Status: RAP_OK, RAP_NO_EDITION, RAP_NOT_UTF8, RAP_TEXT_TOO_LONG, RAP_TOO_MANY_TOKENS, RAP_NO_MEMORY; the first of
+ * them that applies.
+ */
+struct rap_core_answer rap_core(const uint8_t *text, size_t text_length, uint32_t edition,
+                                struct rap_place *places, size_t place_room);
 
 /* The tokens of a text, trivia included: a RAP_TOKEN step for each, and after the last one the lexer's messages, each
  * at its token. Nothing is parsed.

@@ -10,7 +10,7 @@ _rast_choices() {
         rast:2:*) echo "$_rast_editions" ;;
         rast_core:2:* | rast_page:2:* | rast_lex:2:*) echo "$_rast_editions --help --version" ;;
         rast:3:* | rast_page:3:*) echo "$_rast_entries" ;;
-        rast:4:* | rast_page:4:* | rast_lex:3:* | rast_core:3:*) echo FILE ;;
+        rast:4:* | rast_page:4:* | rast_lex:3:* | rast_core:[3-9]:* | rast_core:[1-9][0-9]*:*) echo FILE ;;
         rast:5:*) echo ranges ;;
         rast_lex:4:*) echo input single script ;;
         rast_steps:2:*) echo --steps --prefix --reparse --help --version ;;

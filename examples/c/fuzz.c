@@ -8,6 +8,8 @@
  * - one call rejects the bytes as no UTF-8, and another accepts them;
  * - the tokens that a prefix entry takes are not a prefix of the text;
  * - a node that begins with `{` and ends with its own `}` differs when it is parsed again from its own text;
+ * - a text of the core grammar has a message, or one outside of it no place of what is outside, or such a place is not in
+ *   the text;
  * - memory is not freed after a call (by clang's address sanitizer).
  *
  * The library counts no branches for libFuzzer. So that it sees what is new, the kinds that are inside one another and
@@ -293,6 +295,35 @@ static void check_list(const struct call *c, const struct tree *tree) {
     free_list(l);
 }
 
+/* The places of what is outside of the core grammar, in a room for so many. */
+static struct rap_place *places_of(const struct call *c, struct rap_core_answer all, size_t room) {
+    struct rap_place *places = room_of(room * sizeof *places);
+    struct rap_core_answer told = rap_core(c->text, c->length, c->edition, places, room);
+    check(told.derived == all.derived && told.places == all.places, "the numbers of places do not depend on the room");
+    check_rest(places, room * sizeof *places, room * sizeof *places);
+    return places;
+}
+
+/* Checks what is told of a file by the core grammar. */
+static void check_core(const struct call *c, const struct tree *tree) {
+    struct rap_place none;
+    struct rap_core_answer all = rap_core(c->text, c->length, c->edition, &none, 0);
+    check(all.status == RAP_OK && all.used == c->length, "all text is told of");
+    check(all.derived == (all.places == 0), "what is not of the core grammar has something outside");
+    check(!all.derived || tree->answer.message_bytes == 0, "what is of the core grammar has no message");
+    struct rap_place *places = places_of(c, all, all.places), *few = places_of(c, all, all.places / 2);
+    check(!memcmp(places, few, all.places / 2 * sizeof *few), "less room has the same places");
+    for (size_t i = 0; i < all.places; i++) {
+        const struct rap_place *place = &places[i];
+        check(place->start <= place->end && place->end <= c->length, "a place is in the text");
+        check(place->is_token <= (i ? places[i - 1].is_token : 1), "tokens come before nodes");
+        if (i && place->is_token == places[i - 1].is_token)
+            check(places[i - 1].end <= place->start, "tokens are in order, and so are nodes");
+    }
+    free(places);
+    free(few);
+}
+
 int LLVMFuzzerTestOneInput(const uint8_t *text, size_t length) {
     static const uint32_t EDITIONS[] = {2024, 2021, 2018, 2015};
     struct call c = {0, EDITIONS[length / 70 % 4], (uint32_t)(length % 7), RAP_NO_KIND, RAP_NO_KIND, text, length};
@@ -306,6 +337,7 @@ int LLVMFuzzerTestOneInput(const uint8_t *text, size_t length) {
         c.which = 0;
         check_steps(&c, &tree, 1);
         check_list(&c, &tree);
+        if (c.entry == RAP_SOURCE_FILE) check_core(&c, &tree);
         reparse_nodes(&c, &tree);
         c.which = 2;
         c.entry = (uint32_t)(length % 10);

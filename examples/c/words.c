@@ -1,5 +1,6 @@
-/* words FILE.. tests the tree in words and the calls that cut script sources: with results worked out by hand, and, on each
- * file, that the words are the steps of rap_tree. Prints what is wrong, and returns 1 then. */
+/* words FILE.. tests the tree in words, the calls that cut script sources, the values of literals and the core grammar: with
+ * results worked out by hand, and, on each file, that the words are the steps of rap_tree. Prints what is wrong, and
+ * returns 1 then. */
 #include <stdio.h>
 #include <stdlib.h>
 #include <string.h>
@@ -173,6 +174,30 @@ static void test_values(void) {
     expect(is_number("'a'", "BYTE", (struct rap_number){RAP_NO_LITERAL, 0, 0, 0, 0, 0}), "a character that is no byte");
 }
 
+static struct rap_core_answer core(const char *text, struct rap_place *places, size_t place_room) {
+    return rap_core((const uint8_t *)text, strlen(text), 2024, places, place_room);
+}
+
+static int is_place(struct rap_place place, const char *name, uint32_t is_token, size_t start, size_t end) {
+    return place.kind == kind(name) && place.is_token == is_token && place.start == start && place.end == end;
+}
+
+static void test_core(void) {
+    struct rap_place places[3] = {{9, 9, 9, 9}, {9, 9, 9, 9}, {9, 9, 9, 9}};
+    struct rap_core_answer a = core("fn f(x: u8) -> u8 { x + 1 }", places, 3);
+    expect(a.status == RAP_OK && a.derived == 1 && a.places == 0 && a.used == 27, "a text of the core grammar");
+    expect(places[0].kind == 9, "a place in a text of the core grammar");
+    a = core("trait A = B; const C: char = 'ab';", places, 3);
+    expect(a.status == RAP_OK && a.derived == 0 && a.places == 2 && a.used == 34, "a text outside of the core grammar");
+    expect(is_place(places[0], "CHAR", 1, 29, 33) && is_place(places[1], "TRAIT", 0, 0, 12), "what is outside");
+    expect(places[2].kind == 9, "a place after the last one");
+    a = core("trait A = B; trait C = D;", places, 1);
+    expect(a.places == 2 && is_place(places[0], "TRAIT", 0, 0, 12), "room for one place");
+    expect(is_place(places[1], "TRAIT", 0, 0, 12) && places[2].kind == 9, "a place past the room");
+    a = core("\xff", places, 1);
+    expect(a.status == RAP_NOT_UTF8 && a.derived == 0 && a.places == 0 && a.used == 0, "the core grammar and no UTF-8");
+}
+
 static void compare_file(const char *path) {
     FILE *file = fopen(path, "rb");
     if (!file) exit(2);
@@ -190,6 +215,7 @@ int main(int count, char **words) {
     test_scripts();
     test_ends();
     test_values();
+    test_core();
     for (int i = 1; i < count; i++) compare_file(words[i]);
     return wrong;
 }

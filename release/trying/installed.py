@@ -44,9 +44,16 @@ def try_programs(place: Place, before: str = '') -> None:
     status, out, _ = place.run(f'{before}rast_page 2024 Expr a.rs')
     wanted = '{"file":"a.rs","steps":[0,1,"LITERAL",2,"INT_NUMBER","7",0],"messages":[0]}'
     place.count.check(status == 0 and wanted in out, f'{before}rast_page: {status}, and not the page that is wanted')
-    outside = read('crates/rast_core/stdout')
-    place.prints(f'{before}rast_core 2021 outside.rs; echo $?', f'{outside}1\n')
-    place.prints(f"echo 'fn f() {{}}' | {before}rast_core 2021 /dev/stdin", '')
+    outside = [it for it in read('crates/rast_core/stdout').splitlines() if it.startswith('outside.rs:')]
+    one = ''.join(f'{it.removeprefix("outside.rs:")}\n' for it in outside)
+    place.prints(f'{before}rast_core 2021 outside.rs; echo $?', f'{one}1\n')
+    named = ''.join(f'{it}\n' for it in outside)
+    wanted = f'{named}a.rs:SOURCE_FILE@0..1\n1\n'
+    place.prints(f'{before}rast_core 2021 outside.rs a.rs; echo $?', wanted)
+    place.prints(f'mkdir told && cp outside.rs told/b.rs && {before}rast_core 2021 told; rm -r told',
+                 named.replace('outside.rs:', 'told/b.rs:'))
+    for name in ('/dev/stdin', '-'):
+        place.prints(f"echo 'fn f() {{}}' | {before}rast_core 2021 {name}", '')
     for name in PROGRAMS[1:]:
         place.prints(f'{before}{name} --version', f'{name} {crate_version()}\n')
         status, out, _ = place.run(f'{before}{name} --help')

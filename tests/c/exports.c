@@ -116,7 +116,7 @@ static unsigned long sweep(const struct call *c, size_t steps, size_t notes, siz
 {
     struct room ample = room_for(c, steps, notes, messages), other = room_for(c, steps, notes, messages);
     struct room none = room_for(c, steps, notes, messages);
-    const struct numbers refusal = {RAP_NO_MEMORY, 0, 0, 0, 0};
+    const struct numbers refusal = {RAP_NO_MEMORY, 0, 0, 0, 0, 0};
     struct numbers all = make(c, ample, line, 0);
     unsigned long number = 0;
     blank(c, none);

@@ -8,6 +8,7 @@
  *     nodes EDITION ENTRY TEXT
  *     prefix_nodes EDITION ENTRY TEXT
  *     reparse_nodes EDITION NODE FIRST PARENT TEXT
+ *     core EDITION TEXT
  *     script TEXT
  *     shebang TEXT
  *     blank TEXT
@@ -25,8 +26,8 @@
 #include <string.h>
 
 enum which {
-    TREE, TOKENS, PREFIX, REPARSE, WORDS, NODES, PREFIX_NODES, REPARSE_NODES, SCRIPT, SHEBANG, BLANK, STRING_VALUE,
-    NUMBER_VALUE, NO_CALL
+    TREE, TOKENS, PREFIX, REPARSE, WORDS, NODES, PREFIX_NODES, REPARSE_NODES, CORE, SCRIPT, SHEBANG, BLANK,
+    STRING_VALUE, NUMBER_VALUE, NO_CALL
 };
 
 /* A call without its arrays. */
@@ -37,7 +38,7 @@ struct call {
     size_t length;
 };
 
-/* The arrays of a call, and how much room they have: the first is of steps, of words, of elements or of parts, as the
+/* The arrays of a call, and how much room they have: the first is of steps, words, elements, places or parts, as the
  * call has them; the second of messages, where the call has them apart; and the last of the messages' bytes, or of
  * those that a string stands for. */
 struct room {
@@ -49,13 +50,15 @@ struct room {
     size_t message_room;
 };
 
-/* What a call returns: its status, and how many there are of what the arrays hold. */
+/* What a call returns: its status, how many there are of what the arrays hold, and whether the text is derived, where
+ * the call tells that. */
 struct numbers {
     uint32_t status;
     size_t steps;
     size_t notes;
     size_t message_bytes;
     size_t used;
+    uint32_t derived;
 };
 
 /* Whether the call returns a tree in one list. */
@@ -69,6 +72,8 @@ static inline size_t size_of_step(const struct call *c)
 {
     if (has_list(c))
         return sizeof(struct rap_element);
+    if (c->which == CORE)
+        return sizeof(struct rap_place);
     if (c->which == SCRIPT)
         return sizeof(struct rap_part);
     return c->which == WORDS ? sizeof(uint32_t) : sizeof(struct rap_step);
@@ -131,18 +136,23 @@ static inline struct numbers answer_at(const struct call *c, const uint8_t *text
 {
     if (has_list(c)) {
         struct rap_nodes_answer list = list_at(c, text, r);
-        struct numbers of_list = {list.status, list.elements, list.messages, list.message_bytes, list.used};
+        struct numbers of_list = {list.status, list.elements, list.messages, list.message_bytes, list.used, 0};
         return of_list;
     }
+    if (c->which == CORE) {
+        struct rap_core_answer told = rap_core(text, c->length, c->edition, r.steps, r.step_room);
+        struct numbers of_core = {told.status, told.places, 0, 0, told.used, told.derived};
+        return of_core;
+    }
     struct rap_answer steps = steps_at(c, text, r);
-    struct numbers of_steps = {steps.status, steps.steps, 0, steps.message_bytes, steps.used};
+    struct numbers of_steps = {steps.status, steps.steps, 0, steps.message_bytes, steps.used, 0};
     return of_steps;
 }
 
 static inline int are_same(struct numbers a, struct numbers b)
 {
     return a.status == b.status && a.steps == b.steps && a.notes == b.notes && a.message_bytes == b.message_bytes
-        && a.used == b.used;
+        && a.used == b.used && a.derived == b.derived;
 }
 
 /* The number of the kind of this name. */
@@ -185,7 +195,7 @@ static inline void read_text(struct call *c, const char *word)
 static inline struct call read_call(char *line)
 {
     static const char *const names[] = {"tree",  "tokens",       "prefix",        "reparse", "words",   "nodes",
-                                        "prefix_nodes", "reparse_nodes", "script",  "shebang", "blank",
+                                        "prefix_nodes", "reparse_nodes", "core", "script",  "shebang", "blank",
                                         "string", "number"};
     struct call c = {0};
     const char *word = strtok(line, " \n");
@@ -195,7 +205,7 @@ static inline struct call read_call(char *line)
         exit(2);
     if (c.which < SCRIPT)
         c.edition = (uint32_t)atoi(next_word());
-    if (c.which < SCRIPT && c.which != TOKENS && c.which != REPARSE && c.which != REPARSE_NODES)
+    if (c.which < CORE && c.which != TOKENS && c.which != REPARSE && c.which != REPARSE_NODES)
         c.entry = (uint32_t)atoi(next_word());
     if (c.which == REPARSE || c.which == REPARSE_NODES || c.which >= STRING_VALUE)
         c.node = kind_named(next_word());

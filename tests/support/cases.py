@@ -8,7 +8,8 @@ from typing import IO, NamedTuple, Optional, Union
 
 from support import TOP, built
 
-HEAD = re.compile(r'\$ (\S+)((?: \S+)*?)( > full)?(?: (b?)("(?:[^"\\]|\\.)*"))? = (\d+)')
+TEXT = r'(b?)("(?:[^"\\]|\\.)*")'
+HEAD = re.compile(rf'\$ (\S+)((?: \S+)*?)( > full)?(?: {TEXT})?(?: < {TEXT})? = (\d+)')
 
 
 def cases_of(file: str) -> list[tuple[str, dict[str, list[str]]]]:
@@ -32,10 +33,17 @@ def word_of(word: str) -> bytes:
     return re.sub(rb'\\x([0-9a-f]{2})', lambda it: bytes.fromhex(it[1].decode()), word.encode())
 
 
+def bytes_of(in_bytes: str, text: str) -> bytes:
+    """The bytes of a text of a case."""
+    return str(json.loads(text)).encode('latin-1' if in_bytes else 'utf-8')
+
+
 class Run(NamedTuple):
     """What a case asks for."""
     program: str
     words: list[bytes]
+    # The standard input.
+    given: bytes
     # Whether the standard output is a device that refuses what is written.
     is_refused: bool
     # The status that is wanted.
@@ -47,7 +55,7 @@ def words_of(line: str, in_bytes: str, text: Optional[str], folder: str, name: s
     words = line.split()
     if text is not None:
         with open(f'{folder}/a.rs', 'wb') as file:
-            file.write(json.loads(text).encode('latin-1' if in_bytes else 'utf-8'))
+            file.write(bytes_of(in_bytes, text))
         words = [it.replace('FILE', name) for it in words] if 'FILE' in words else [*words, name]
     return [word_of(it) for it in words]
 
@@ -57,8 +65,14 @@ def run_of(head: str, folder: str, name: str = 'a.rs') -> Run:
     found = HEAD.fullmatch(head)
     if not found:
         sys.exit(f'this is no head of a case: {head}')
-    program, line, full, in_bytes, text, status = found.groups()
-    return Run(program, words_of(line, in_bytes, text, folder, name), full is not None, int(status))
+    program, line, full, in_bytes, text, given_in_bytes, given, status = found.groups()
+    words = words_of(line, in_bytes, text, folder, name)
+    return Run(program, words, bytes_of(given_in_bytes, given) if given else b'', full is not None, int(status))
+
+
+def shown(stream: bytes, folder: str) -> str:
+    """What a program wrote, without the folder of the case's file, and with `@` for that of the repository."""
+    return stream.decode(errors='backslashreplace').replace(f'{folder}/', '').replace(f'{TOP}/', '@')
 
 
 def ran(run: Run, folder: str) -> tuple[int, str, str]:
@@ -66,9 +80,8 @@ def ran(run: Run, folder: str) -> tuple[int, str, str]:
     with open('/dev/full', 'wb') as device:
         to: Union[int, IO[bytes]] = device if run.is_refused else subprocess.PIPE
         started = [*map(os.fsencode, built(run.program)), *run.words]
-        done = subprocess.run(started, cwd=folder, stdout=to, stderr=subprocess.PIPE, check=False)
-    out, err = ((it or b'').decode(errors='backslashreplace') for it in (done.stdout, done.stderr))
-    return done.returncode, out, err
+        done = subprocess.run(started, cwd=folder, input=run.given, stdout=to, stderr=subprocess.PIPE, check=False)
+    return done.returncode, shown(done.stdout or b'', folder), shown(done.stderr, folder)
 
 
 def has_lines(wanted: str, out: str) -> bool:

@@ -29,6 +29,8 @@ def calls_of_rows(found: Iterable[Row]) -> Iterator[str]:
     """The calls that read rows of the replayed sample as these say."""
     for _line, edition, way, text in found:
         head, *rest = way.split('/')
+        if head == 'SourceFile':
+            yield line_of(['core', edition], text)
         if head in TOPS:
             yield line_of(['tree', edition, str(TOPS.index(head))], text)
             yield line_of(['words', edition, str(TOPS.index(head))], text)

@@ -9,10 +9,10 @@
 from rap._elements import Columns, Error
 from rap.kinds import Kind
 from rap.node import Element, Node, Token
-from rap.tree import Tokens, Tree, parse, tokens
+from rap.tree import Outside, Tokens, Tree, parse, tokens
 from rap.words import Edition, Entry
 
 __version__ = '0.0.360'
 
-__all__ = ['Columns', 'Edition', 'Element', 'Entry', 'Error', 'Kind', 'Node', 'Token', 'Tokens', 'Tree', 'parse',
-           'tokens']
+__all__ = ['Columns', 'Edition', 'Element', 'Entry', 'Error', 'Kind', 'Node', 'Outside', 'Token', 'Tokens', 'Tree',
+           'parse', 'tokens']

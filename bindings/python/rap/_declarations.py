@@ -2,7 +2,7 @@
 """What the library declares."""
 
 # The version of the interface: the first number must be that of the library, and the second not above.
-VERSION = (1, 1)
+VERSION = (1, 2)
 
 DECLARATIONS = '''
 struct rap_step {
@@ -37,6 +37,18 @@ struct rap_nodes_answer {
     size_t elements;
     size_t messages;
     size_t message_bytes;
+    size_t used;
+};
+struct rap_place {
+    uint32_t kind;
+    uint32_t is_token;
+    size_t start;
+    size_t end;
+};
+struct rap_core_answer {
+    uint32_t status;
+    uint32_t derived;
+    size_t places;
     size_t used;
 };
 struct rap_string {
@@ -79,6 +91,8 @@ struct rap_nodes_answer rap_nodes(const uint8_t *text, size_t text_length, uint3
                                   struct rap_element *elements, size_t element_room,
                                   struct rap_message *messages, size_t message_room,
                                   uint8_t *message_bytes, size_t byte_room);
+struct rap_core_answer rap_core(const uint8_t *text, size_t text_length, uint32_t edition,
+                                struct rap_place *places, size_t place_room);
 struct rap_answer rap_tokens(const uint8_t *text, size_t text_length, uint32_t edition,
                              struct rap_step *steps, size_t step_room, uint8_t *messages, size_t message_room);
 struct rap_string rap_string_value(const uint8_t *text, size_t text_length, uint32_t kind,

@@ -22,7 +22,7 @@ def _open() -> Any:
     try:
         found: Any = ffi.dlopen(path)
         version = found.rap_version()
-        found.rap_nodes, found.rap_number_value
+        found.rap_nodes, found.rap_core
     except (OSError, AttributeError) as why:
         raise ImportError(f'rap needs {NAME}, which RAP_LIBRARY may name: {why}') from None
     if version // 1000000 != VERSION[0] or version // 1000 % 1000 < VERSION[1]:

@@ -6,7 +6,8 @@ The C library's contexts change to it and back, in the thread of the caller. A p
 is written to. Nothing of Python ever runs on such a stack."""
 import mmap
 import threading
-from typing import Any
+from collections.abc import Callable
+from typing import Any, TypeVar
 
 import cffi
 
@@ -47,10 +48,19 @@ MESSAGE, MOST_REPORTS = 40, 1 << 20
 # The status, the counts, the messages and their bytes.
 Answer = tuple[int, Counts, bytes, bytes]
 
+# The bytes of a place.
+PLACE = 24
+
+# The status, whether the text is derived, how many places there are, and the places.
+Told = tuple[int, bool, int, bytes]
+
+T = TypeVar('T')
+
 # Memory that no one has written to.
 _memory_of: Any = ffi.new_allocator(should_clear_after_alloc=False)
 
 _rap_nodes: Any = ffi.cast('void *', lib.rap_nodes)
+_rap_core: Any = ffi.cast('void *', lib.rap_core)
 
 
 def needed(length: int) -> int:
@@ -97,6 +107,18 @@ class Stack:
             return answer.status, counts, b'', b''
         return answer.status, counts, ffi.buffer(reports, MESSAGE * messages)[:], ffi.buffer(texts, size)[:]
 
+    def rap_core(self, text: bytes, edition: int, room: int) -> Told:
+        """What `rap_core` returns of a text, with room for so many places."""
+        answer, places = ffi.new('struct rap_core_answer *'), _memory_of('uint8_t[]', PLACE * room + 1)
+        context, none = self._context, ffi.NULL
+        first, sixth = int(ffi.cast('size_t', places)), _libc_ffi.cast('void *', room)
+        _libc.getcontext(context)
+        # The call takes six words, and those behind them are not read.
+        _libc.makecontext(context, _rap_core, 6, answer, text, len(text), edition, first, sixth, 0, none, 0, none, 0)
+        _libc.swapcontext(self._caller, context)
+        written = ffi.buffer(places, PLACE * min(answer.places, room))[:]
+        return answer.status, answer.derived == 1, answer.places, written
+
 
 class _Local(threading.local):
     """The stack that is kept for a thread."""
@@ -107,17 +129,28 @@ class _Local(threading.local):
 _local = _Local()
 
 
+def _call(length: int, call: Callable[[Stack], T]) -> T:
+    """A call on a stack that suffices for any text of so many bytes. MemoryError where there is none."""
+    need = needed(length) + OWN
+    if need > MOST_KEPT:
+        return call(Stack(need))
+    stack, _local.kept = _local.kept, None
+    if stack is None or stack.size < need:
+        stack = Stack(max(LEAST_KEPT, 1 << (need - 1).bit_length()))
+    answer = call(stack)
+    if stack.reports <= MOST_REPORTS:
+        _local.kept = stack
+    return answer
+
+
 def rap_nodes(text: bytes, edition: int, entry: int, elements: Any, rooms: Counts) -> Answer:
     """What `rap_nodes` of the library returns of a text: the status, how many elements, messages and bytes of messages
     there are, and the messages and their bytes, if there is room for them. MemoryError where there is no stack for
     it."""
-    need = needed(len(text)) + OWN
-    if need > MOST_KEPT:
-        return Stack(need).rap_nodes(text, edition, entry, elements, rooms)
-    stack, _local.kept = _local.kept, None
-    if stack is None or stack.size < need:
-        stack = Stack(max(LEAST_KEPT, 1 << (need - 1).bit_length()))
-    answer = stack.rap_nodes(text, edition, entry, elements, rooms)
-    if stack.reports <= MOST_REPORTS:
-        _local.kept = stack
-    return answer
+    return _call(len(text), lambda stack: stack.rap_nodes(text, edition, entry, elements, rooms))
+
+
+def rap_core(text: bytes, edition: int, room: int) -> Told:
+    """What `rap_core` of the library returns of a text, with room for so many places. MemoryError where there is no
+    stack for it."""
+    return _call(len(text), lambda stack: stack.rap_core(text, edition, room))

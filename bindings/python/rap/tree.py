@@ -3,7 +3,7 @@ from __future__ import annotations
 
 import re
 from collections.abc import Iterator, Sequence
-from typing import Any, overload
+from typing import Any, NamedTuple, overload
 
 import numpy as np
 from numpy.typing import NDArray
@@ -14,10 +14,16 @@ from rap._html import page
 from rap._library import ffi, lib, status_text
 from rap._source import Source
 from rap._stack import Counts
+from rap.kinds import Kind
 from rap.node import Element, Node, Token
 from rap.words import Edition, Entry, edition_of, entry_of
 
 STEP = np.dtype([('what', '<u4'), ('kind', '<u4'), ('at', '<u8'), ('start', '<u8'), ('end', '<u8')])
+
+PLACE = np.dtype([('kind', '<u4'), ('is_token', '<u4'), ('start', '<u8'), ('end', '<u8')])
+
+# For how many places of what is outside of the core grammar there is room at first.
+PLACES = 64
 
 RAP_OK: int = lib.RAP_OK
 
@@ -42,6 +48,17 @@ def _check(status: int, source: Source) -> None:
     if status == lib.RAP_NOT_UTF8:
         source.data.decode()
     raise ValueError(status_text(status))
+
+
+class Outside(NamedTuple):
+    """A token or a node that is outside of the core grammar."""
+
+    kind: Kind
+    """its kind"""
+    range: tuple[int, int]
+    """its bytes: of a node those of its tokens, without white space and comments before and after them"""
+    is_token: bool
+    """whether it is a token, of which the lexer has a message"""
 
 
 class Tree(Elements):
@@ -71,6 +88,45 @@ class Tree(Elements):
     def covering(self, start: int, end: int) -> Element:
         """The smallest node or token that holds these bytes, as [`Element.covering`]."""
         return self.root.covering(start, end)
+
+    def is_derived(self) -> bool:
+        """Whether the tree is that of a file and is proved to be right: the core grammar derives the text's tokens as a
+        file, the tree is the derivation's, and there is no message.
+
+        `False` says that there is a message, or that no derivation was found, which is no proof that there is none. It
+        is `False` of a tree of another entry than `SourceFile`: of these nothing is asked. The text is parsed again for
+        the answer. MemoryError: there is no memory, or no stack for a text of this length.
+
+            >>> rap.parse('fn f(pair: &(u8, u8)) -> u8 { pair.0 }').is_derived()
+            True"""
+        return self.entry == Entry.SourceFile and self._told(0)[0]
+
+    def outside_core(self) -> list[Outside]:
+        """What of a file is outside of the core grammar: first each token that the lexer has a message of, in the order
+        of the text; then, where no derivation was found, nodes in the order of the text. These are the nodes that the
+        grammar does not derive, though it has such nodes, and that have no such node in them; where there is none, the
+        whole file.
+
+        The list is empty where [`Tree.is_derived`] holds, and has at least one element else, but of a tree of another
+        entry than `SourceFile`, of which nothing is asked. The text is parsed again for the answer. MemoryError: there
+        is no memory, or no stack for a text of this length.
+
+            >>> rap.parse('trait A = B;').outside_core()
+            [Outside(kind=<Kind.TRAIT: 260>, range=(0, 12), is_token=False)]"""
+        if self.entry != Entry.SourceFile:
+            return []
+        _, count, places = self._told(PLACES)
+        if count > PLACES:
+            _, count, places = self._told(count)
+        rows = np.frombuffer(places, PLACE).tolist()
+        return [Outside(Kind(kind), (start, end), is_token == 1) for kind, is_token, start, end in rows]
+
+    def _told(self, room: int) -> tuple[bool, int, bytes]:
+        """What the library tells of the text with room for so many places: whether it is derived, how many places there
+        are, and the places."""
+        status, is_derived, count, places = _stack.rap_core(self.source.data, int(self.edition), room)
+        _check(status, self.source)
+        return is_derived, count, places
 
     def dump(self, ranges: bool = False) -> str:
         """The tree as the program `rast` prints it: a line for each node and token, and one for each message, first the

@@ -133,3 +133,34 @@ def test_in_a_notebook() -> None:
     assert '&lt;b&gt;' in page and '<b>' not in page
     assert 'title="expected expression"' in page and 'error 16: expected expression' in page
     assert rap.parse('a; ' * 10000, entry='MacroStmts')._repr_html_().count('…') == 2
+
+
+def test_a_file_of_the_core_grammar() -> None:
+    tree = rap.parse('fn f(pair: &(u8, u8)) -> u8 { pair.0 }')
+    assert (tree.is_derived(), tree.outside_core()) == (True, [])
+
+
+def test_what_is_outside_of_the_core_grammar() -> None:
+    # A float behind a dot, and a token of which the lexer has a message.
+    tree = rap.parse('trait A = B;\nfn f() {\n    /* é */ x.0.1;\n    "\\q"\n}\n')
+    assert not tree.is_derived()
+    assert tree.outside_core() == [rap.Outside(Kind.STRING, (46, 50), True), rap.Outside(Kind.TRAIT, (0, 12), False),
+                                   rap.Outside(Kind.FIELD_EXPR, (35, 40), False)]
+    # Where only the lexer has a message, no node is listed.
+    tree = rap.parse('const A: &str = "\\q";')
+    assert (tree.is_derived(), tree.outside_core()) == (False, [rap.Outside(Kind.STRING, (16, 20), True)])
+
+
+def test_more_places_than_there_is_room_for_at_first() -> None:
+    item = 'trait A = B;\n'
+    wanted = [rap.Outside(Kind.TRAIT, (at, at + 12), False) for at in range(0, 1000 * len(item), len(item))]
+    assert rap.parse(item * 1000).outside_core() == wanted
+
+
+def test_editions_differ_in_the_core_grammar() -> None:
+    assert [rap.parse('type A = dyn B;', edition).is_derived() for edition in ('2015', '2018')] == [False, True]
+
+
+def test_only_a_file_is_asked_for() -> None:
+    tree = rap.parse('1 + 2', entry='Expr')
+    assert (tree.is_derived(), tree.outside_core()) == (False, [])

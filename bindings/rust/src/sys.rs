@@ -7,6 +7,7 @@
 //! - `words` the reader of a tree in words,
 //! - `nodes` the calls for trees in one list,
 //! - `literals` the calls for values of literals,
+//! - `outside` the call that tells whether a text is in the core grammar,
 //! - `stack` the stacks on which calls parse,
 //! - `status` the statuses, and `processor` what the library needs of the processor.
 #![allow(unsafe_code)]
@@ -14,6 +15,7 @@
 mod declarations;
 mod literals;
 mod nodes;
+mod outside;
 mod processor;
 mod room;
 mod stack;
@@ -23,6 +25,7 @@ mod words;
 pub use declarations::*;
 pub use literals::{number_value, string_value};
 pub use nodes::{Nodes, keep_elements, lexer_places, nodes};
+pub use outside::{is_derived, outside_core};
 pub(crate) use status::check_status;
 pub(crate) use words::Woven;
 

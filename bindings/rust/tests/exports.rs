@@ -1,7 +1,11 @@
 //! The exports as C calls them, with results worked out by hand.
-use ra_ap_parser::SyntaxKind::{BIN_EXPR, EOF, ERROR, INT_NUMBER, LITERAL, PLUS, WHITESPACE};
+use ra_ap_parser::SyntaxKind::{
+    BIN_EXPR, CHAR, EOF, ERROR, FIELD_EXPR, INT_NUMBER, LITERAL, PLUS, STRING, TRAIT, WHITESPACE,
+};
 use ra_ap_parser::sys::{self, Answer, ENTER, EXIT, LONG, MESSAGE, NO_KIND, NO_SCRIPT, Part, Step, TOKEN, VERSION};
-use ra_ap_parser::sys::{Element, Message, NO_LITERAL, NO_NUMBER, NO_PARENT, NodesAnswer, NumberValue};
+use ra_ap_parser::sys::{
+    CoreAnswer, Element, Message, NO_LITERAL, NO_NUMBER, NO_PARENT, NodesAnswer, NumberValue, Place,
+};
 
 /// The contents of an array that no call has written to.
 const BLANK: Step = Step { what: 99, kind: 99, at: 99, start: 99, end: 99 };
@@ -232,6 +236,33 @@ fn finds_ends_of_what_may_stand_before_code() {
         [blank(b" \n \nx"), blank(b" x"), blank(b"\xff")].map(|it| (it.status, it.used)),
         [(0, 4), (0, 0), (4, 0)]
     );
+}
+
+#[test]
+fn tells_what_is_outside_of_the_core() {
+    let blank = Place::new(EOF, 99, 99, 99);
+    let told = |text: &[u8], edition, room: usize| {
+        let mut places = vec![blank; room];
+        let answer = unsafe { sys::rap_core(text.as_ptr(), text.len(), edition, places.as_mut_ptr(), room) };
+        (answer, places)
+    };
+    let given = |derived, places, used| CoreAnswer { status: 0, derived, places, used };
+    let refused = |status| CoreAnswer { status, ..CoreAnswer::default() };
+    assert_eq!(told(b"fn f() {}", 2021, 1), (given(1, 0, 9), vec![blank]));
+    // A float behind a dot: no category has the field.
+    let text = b"fn f() { /* a */ x.0.1; }";
+    assert_eq!(told(text, 2021, 2), (given(0, 1, 25), vec![Place::new(FIELD_EXPR, 0, 17, 22), blank]));
+    assert_eq!(told(text, 2021, 0), (given(0, 1, 25), vec![]));
+    // Two tokens with a message, in a text that is derived.
+    let text = br#"fn f() { "\q" + "\z" }"#;
+    let tokens = [Place::new(STRING, 1, 9, 13), Place::new(STRING, 1, 16, 20)];
+    assert_eq!(told(text, 2024, 3), (given(0, 2, 22), vec![tokens[0], tokens[1], blank]));
+    assert_eq!(told(text, 2024, 1), (given(0, 2, 22), vec![tokens[0]]));
+    // Both: the token comes first.
+    let both = vec![Place::new(CHAR, 1, 29, 33), Place::new(TRAIT, 0, 0, 12)];
+    assert_eq!(told(b"trait A = B; const C: char = 'ab';", 2024, 2), (given(0, 2, 34), both));
+    assert_eq!(told(b"fn f() {}", 2022, 1), (refused(2), vec![blank]));
+    assert_eq!(told(b"\xff", 2021, 1), (refused(4), vec![blank]));
 }
 
 #[test]

@@ -1,7 +1,7 @@
 //! Trees.
 use crate::message::parser_first;
 use crate::place::Place;
-use crate::{Edition, Message, Node, TopEntryPoint};
+use crate::{Edition, Message, Node, Outside, SyntaxKind, TopEntryPoint};
 use ra_ap_parser::sys::{self, Element};
 use std::fmt;
 
@@ -23,6 +23,7 @@ pub struct Tree {
     /// The nodes and tokens in preorder, so that what is inside a node follows it.
     elements: Vec<Element>,
     messages: Vec<Message>,
+    edition: Edition,
 }
 
 impl Tree {
@@ -46,13 +47,13 @@ impl Tree {
         let text = text.into();
         let nodes = sys::nodes(&text, edition, &entry);
         let messages = parser_first(&nodes, edition, &text);
-        Tree { text, elements: nodes.elements, messages }
+        Tree { text, elements: nodes.elements, messages, edition }
     }
 
     /// The tree of this list.
     #[cfg(test)]
     pub(crate) fn of_elements(text: &str, elements: Vec<Element>) -> Tree {
-        Tree { text: text.into(), elements, messages: Vec::new() }
+        Tree { text: text.into(), elements, messages: Vec::new(), edition: Edition::CURRENT }
     }
 
     /// The text that the tree is over.
@@ -95,6 +96,62 @@ impl Tree {
     #[must_use]
     pub fn messages(&self) -> &[Message] {
         &self.messages
+    }
+
+    /// Whether the tree is that of a file and is proved to be right: the core grammar derives the text's tokens as a file,
+    /// the tree is the derivation's, and there is no message.
+    ///
+    /// `false` says that there is a message, or that no derivation was found, which is no proof that there is none. It is
+    /// `false` of a tree of another entry than [`TopEntryPoint::SourceFile`]: of these nothing is asked. The text is
+    /// parsed again for the answer.
+    ///
+    /// # Panics
+    ///
+    /// If the call is out of memory, and if the system has no addresses for a stack of 1 KB for each byte of the text.
+    ///
+    /// ```
+    /// use rap_tree::{Edition, TopEntryPoint, Tree};
+    ///
+    /// let file = |text| Tree::of_text(Edition::CURRENT, TopEntryPoint::SourceFile, text);
+    /// assert!(file("fn f(pair: &(u8, u8)) -> u8 { pair.0 }").is_derived());
+    /// assert!(!file("fn f(pair: &(u8, (u8, u8))) -> u8 { pair.1.0 }").is_derived());
+    /// ```
+    #[must_use]
+    pub fn is_derived(&self) -> bool {
+        self.is_file() && sys::is_derived(&self.text, self.edition)
+    }
+
+    /// What of a file is outside of the core grammar: first each token that the lexer has a message of, in the order of
+    /// the text; then, where no derivation was found, nodes in the order of the text. These are the nodes that the grammar
+    /// does not derive, though it has such nodes, and that have no such node in them; where there is none, the whole file.
+    ///
+    /// There is none where [`Tree::is_derived`] holds, and else at least one, but of a tree of another entry than
+    /// [`TopEntryPoint::SourceFile`], of which nothing is asked. The text is parsed again for the answer.
+    ///
+    /// # Panics
+    ///
+    /// As [`Tree::is_derived`].
+    ///
+    /// ```
+    /// use rap_tree::{Edition, SyntaxKind, TopEntryPoint, Tree};
+    ///
+    /// let text = "fn f() {} trait A = B;";
+    /// let tree = Tree::of_text(Edition::CURRENT, TopEntryPoint::SourceFile, text);
+    /// let outside = tree.outside_core();
+    /// assert_eq!(outside.len(), 1);
+    /// assert_eq!((outside[0].kind(), &text[outside[0].range()]), (SyntaxKind::TRAIT, "trait A = B;"));
+    /// ```
+    #[must_use]
+    pub fn outside_core(&self) -> Vec<Outside> {
+        if !self.is_file() {
+            return Vec::new();
+        }
+        sys::outside_core(&self.text, self.edition).iter().map(Outside::new).collect()
+    }
+
+    /// Whether the tree is that of a file: no other entry makes such a node.
+    fn is_file(&self) -> bool {
+        self.root().kind() == SyntaxKind::SOURCE_FILE
     }
 
     #[inline]

@@ -1,4 +1,5 @@
 pub mod Answer
+pub mod Derived
 pub mod Element
 pub mod Filling
 pub mod Fills

@@ -5,6 +5,7 @@
 #![tactic(auto)]
 
 mod answer;
+mod derived;
 mod element;
 mod element_room;
 mod filler;
@@ -38,6 +39,7 @@ mod waiting;
 mod weave;
 
 pub use answer::RapAnswer;
+pub use derived::{RapCoreAnswer, RapPlace, rap_core};
 pub use element::{RapElement, RapMessage, RapNodesAnswer};
 pub use kind_name::{rap_kind_name, rap_kind_of_name};
 pub use literal::{RapNumber, RapString, rap_number_value, rap_string_value};

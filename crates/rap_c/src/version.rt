@@ -6,7 +6,7 @@ ghost use Rattle.rap_c.specs.Version.{version};
 /// second, and the third.
 #[unsafe(no_mangle)]
 pub extern "C" fn rap_version() -> u32
-    ensures { result ≡ version 1 1 0 }
+    ensures { result ≡ version 1 2 0 }
 {
-    1_001_000
+    1_002_000
 }

@@ -1,5 +1,4 @@
+pub mod Among
 pub mod Listed
-pub mod Nodes
 pub mod Page
-pub mod Walked
 pub mod Words

@@ -1,63 +1,26 @@
 -- The lines that the program prints.
-use Rattle.std.specs.Prelude.{◌≡◌, ◌<◌, ℕ, zero, suc, ◌+◌, List, [], ◌∷◌, ◌++◌, All, Contains, codes, length, if◌then◌else◌, slice_index_or}
+use Rattle.std.specs.Prelude.{ℕ, List, [], ◌∷◌, ◌++◌, Option, None, Some, codes}
+use Rattle.std.specs.Borrow.{Bor}
 use Rattle.std.specs.Fmt.{decimal}
 use Rattle.rap_base.specs.Names.{name_of}
-use Rattle.rap_events.specs.Forest.{Forest, used}
-use Rattle.rap_grammar_ends.specs.StandsIn.{NodeAt}
-use Rattle.rap_lexed.specs.LexedStr.{Lexed, Message, start_of, token_at}
-use Rattle.rap_lexed.specs.Token.{Token}
-use Rattle.rap_lexed.specs.Trivia.{is_trivial}
-use Rattle.rast_core.specs.declared.listing.Place.{Place}
+use Rattle.rap_core.specs.declared.listing.Place.{Place}
+use Rattle.rap_core.specs.declared.listing.Places.{Places}
 
--- the line of a token or of a node: its kind, and where it begins and ends in the text
-abbrev pub place_line : Place → List ℕ
-place_line p = name_of p.kind ++ (codes "@" ++ (decimal p.start ++ (codes ".." ++ (decimal p.end ++ codes "\n"))))
+-- what each line begins with: where the file is told the file and a colon
+abbrev pub front_of : Option (Bor (List ℕ)) → List ℕ
+front_of None = []
+front_of (Some file) = file.now ++ codes ":"
+
+-- the line of a token or of a node: behind the front its kind, and where it begins and ends in the text
+abbrev pub place_line : List ℕ → Place → List ℕ
+place_line front p =
+    front ++ (name_of p.kind ++ (codes "@" ++ (decimal p.start ++ (codes ".." ++ (decimal p.end ++ codes "\n")))))
 
 -- the lines of places in their order
-abbrev pub place_lines : List Place → List ℕ
-place_lines [] = []
-place_lines (p ∷ ps) = place_line p ++ place_lines ps
+abbrev pub place_lines : List ℕ → List Place → List ℕ
+place_lines front [] = []
+place_lines front (p ∷ ps) = place_line front p ++ place_lines front ps
 
--- the lexer has a message of the token with this number
-abbrev pub HasMessage : Lexed → ℕ → Type 0
-HasMessage lexed token = (message : Message) × Contains lexed.errors message × (message.token ≡ token)
-
--- A place is that of a token that the lexer has a message of: its kind, and where it begins and ends.
-pub record IsReported (lexed : Lexed) (place : Place) : Type 0 where
-  pub token : ℕ
-  pub within : token < length lexed.tokens
-  pub message : HasMessage lexed token
-  pub kind : place.kind ≡ (token_at lexed.tokens token).kind
-  pub start : place.start ≡ start_of lexed.tokens token
-  pub end : place.end ≡ start_of lexed.tokens (token + 1)
-
--- Of so many first tokens the numbers of those that the parser reads, in order: they are no trivia.
-abbrev pub numbers_read : List Token → ℕ → List ℕ
-numbers_read ts zero = []
-numbers_read ts (suc n) = numbers_read ts n ++ (if is_trivial (token_at ts n) then [] else n ∷ [])
-
--- The number of the token that the parser reads after so many others; where there is none, how many tokens there are.
-abbrev pub number_after : List Token → ℕ → ℕ
-number_after ts before = slice_index_or (numbers_read ts (length ts)) before (length ts)
-
--- Where so many of the tokens that the parser reads end, behind so many others. None of them end where the next begins.
-abbrev pub end_behind : List Token → ℕ → ℕ → ℕ
-end_behind ts before zero = start_of ts (number_after ts before)
-end_behind ts before (suc n) = start_of ts (number_after ts (before + n) + 1)
-
--- A place is that of a node of the tree: its kind, and where the first of its tokens begins and the last one ends. One
--- without tokens is where the next token begins.
-pub record IsNodePlace (tokens : List Token) (tree : Forest) (place : Place) : Type 0 where
-  pub before : ℕ
-  pub children : Forest
-  pub stands : NodeAt tree before place.kind children
-  pub start : place.start ≡ start_of tokens (number_after tokens before)
-  pub end : place.end ≡ end_behind tokens before (used children)
-
--- The lines are first those of tokens that the lexer has a message of, and then those of nodes of the tree.
-pub record Lists (lexed : Lexed) (tree : Forest) (lines : List ℕ) : Type 0 where
-  pub tokens : List Place
-  pub nodes : List Place
-  pub each_token : All (IsReported lexed) tokens
-  pub each_node : All (IsNodePlace lexed.tokens tree) nodes
-  pub are : lines ≡ place_lines tokens ++ place_lines nodes
+-- the lines of what is outside: first those of tokens that the lexer has a message of, and then those of nodes of the tree
+abbrev pub all_lines : List ℕ → Places → List ℕ
+all_lines front places = place_lines front places.tokens.items ++ place_lines front places.nodes.items

@@ -5,23 +5,23 @@ ghost use Rattle.rast_core.specs.Words.{IsRead};
 use ra_ap_parser::Edition;
 use rast_common::words::{WrongWords, read_edition};
 
-/// A file, and its edition.
+/// Files, folders or the standard input, and their edition.
 #[derive(Clone, Copy, Debug)]
 pub struct Request<'a> {
     pub edition: Edition,
-    pub file: &'a str,
+    /// At least one.
+    pub files: &'a [String],
 }
 
-/// Reads the words `EDITION FILE`. The error is the first of these that holds: there are too few or too many, the edition
-/// is none.
+/// Reads the words `EDITION FILE..`. The error is the first of these that holds: there are too few, the edition is none.
 pub fn read_request(words: &[String]) -> Result<Request<'_>, WrongWords<'_>>
     ensures { IsRead (texts words.now) result }
 {
-    match words {
-        [edition, file] => Ok(Request {
-            edition: read_edition(edition.as_str())?,
-            file: file.as_str(),
-        }),
-        _ => Err(WrongWords::Number),
+    if words.len() < 2 {
+        return Err(WrongWords::Number);
     }
+    Ok(Request {
+        edition: read_edition(words[0].as_str())?,
+        files: &words[1..],
+    })
 }

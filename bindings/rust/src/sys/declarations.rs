@@ -94,6 +94,41 @@ pub struct NodesAnswer {
     pub used: usize,
 }
 
+/// A token or a node that is outside of the core grammar, as `struct rap_place`.
+///
+/// Its kind is always the number of one: the library writes no other.
+#[repr(C)]
+#[derive(Clone, Copy, Debug, PartialEq, Eq)]
+pub struct Place {
+    kind: u32,
+    pub is_token: u32,
+    pub start: usize,
+    pub end: usize,
+}
+
+impl Place {
+    #[must_use]
+    pub fn new(kind: SyntaxKind, is_token: u32, start: usize, end: usize) -> Place {
+        Place { kind: kind as u32, is_token, start, end }
+    }
+
+    #[must_use]
+    pub fn kind(&self) -> SyntaxKind {
+        // SAFETY: it is the number of a kind, from 0 to 329, and the enum has these numbers.
+        unsafe { std::mem::transmute::<u16, SyntaxKind>(self.kind as u16) }
+    }
+}
+
+/// Whether a text is in the core grammar, as `struct rap_core_answer`.
+#[repr(C)]
+#[derive(Clone, Copy, Debug, Default, PartialEq, Eq)]
+pub struct CoreAnswer {
+    pub status: u32,
+    pub derived: u32,
+    pub places: usize,
+    pub used: usize,
+}
+
 /// What a string stands for, as `struct rap_string`.
 #[repr(C)]
 #[derive(Clone, Copy, Debug, Default, PartialEq, Eq)]
@@ -143,7 +178,7 @@ pub const NO_KIND: u32 = 330;
 pub const NO_PARENT: u32 = u32::MAX;
 
 /// The version of the interface that is declared here, as `RAP_VERSION`.
-pub const VERSION: u32 = 1_001_000;
+pub const VERSION: u32 = 1_002_000;
 
 unsafe extern "C" {
     pub fn rap_tree(
@@ -156,6 +191,14 @@ unsafe extern "C" {
         messages: *mut u8,
         message_room: usize,
     ) -> Answer;
+
+    pub fn rap_core(
+        text: *const u8,
+        text_length: usize,
+        edition: u32,
+        places: *mut Place,
+        place_room: usize,
+    ) -> CoreAnswer;
 
     pub fn rap_tokens(
         text: *const u8,

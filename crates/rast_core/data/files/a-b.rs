@@ -1,0 +1,2 @@
+// Before a.rs in the order of paths.
+trait A = B;

@@ -1,6 +1,0 @@
-use Rattle.std.specs.Prelude.{All}
-use Rattle.rast_core.specs.Listed.{IsNodePlace}
-use Rattle.rast_core.proofs.listing.nodes_outside.Given as goal
-
-abbrev pub invariant-nodes : goal.invariant-nodes
-invariant-nodes l = All (IsNodePlace l.fn.lexed.tokens l.fn.output) l.places.items
