@@ -109,26 +109,27 @@ fn fill_core(
     ensures fault { IfErr result (ComesOfText text.now edition) }
     ensures untouched { IfErr result (λ _. room.new ≡ room.old) }
 {
-    match outside_core(alloc, edition, text) {
-        Ok(None) => Ok(RapCoreAnswer {
+    let told = match outside_core(alloc, edition, text) {
+        Ok(told) => told,
+        Err(TextFault::TextTooLong) => return Err(Fault::TextTooLong),
+        Err(TextFault::TooManyTokens) => return Err(Fault::TooManyTokens),
+        Err(TextFault::NoMemory | TextFault::Refused(_)) => return Err(Fault::NoMemory),
+    };
+    let Some(outside) = told else {
+        return Ok(RapCoreAnswer {
             status: OK,
             derived: 1,
             places: 0,
             used: text.len(),
-        }),
-        Ok(Some(outside)) => {
-            let places = fill_outside(alloc, &outside, room)?;
-            Ok(RapCoreAnswer {
-                status: OK,
-                derived: 0,
-                places,
-                used: text.len(),
-            })
-        }
-        Err(TextFault::TextTooLong) => Err(Fault::TextTooLong),
-        Err(TextFault::TooManyTokens) => Err(Fault::TooManyTokens),
-        Err(TextFault::NoMemory | TextFault::Refused(_)) => Err(Fault::NoMemory),
-    }
+        });
+    };
+    let places = fill_outside(alloc, &outside, room)?;
+    Ok(RapCoreAnswer {
+        status: OK,
+        derived: 0,
+        places,
+        used: text.len(),
+    })
 }
 
 /// Reads the number and the bytes, and fills the room.
