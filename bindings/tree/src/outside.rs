@@ -43,8 +43,8 @@ impl Outside {
     /// ```
     /// use rap_tree::{Edition, TopEntryPoint, Tree};
     ///
-    /// let tree = Tree::of_text(Edition::CURRENT, TopEntryPoint::SourceFile, "/// a\ntrait A = B; // b");
-    /// assert_eq!(tree.outside_core()[0].range(), 6..18);
+    /// let tree = Tree::of_text(Edition::CURRENT, TopEntryPoint::SourceFile, "// a\ntrait A = B; // b");
+    /// assert_eq!(tree.outside_core()[0].range(), 5..17);
     /// ```
     #[must_use]
     pub fn range(&self) -> Range<usize> {
